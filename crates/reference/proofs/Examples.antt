@@ -1,0 +1,20 @@
+-- The starred examples of document 01 about L and H, computed from the definitions.
+-- Assumes nothing.
+use mathlib.Core.Path.{refl}
+use lib.Dec.{lit<}
+use Rattle.reference.specs.Table1.{table1}
+use Rattle.reference.specs.Basis.{entry, atPlace, L-at, H-at}
+use Rattle.reference.specs.Examples.{StarredBasis}
+
+pub starred-basis : StarredBasis
+unfolding L-at H-at atPlace entry table1
+starred-basis =
+    record {
+      l-8860 = refl;
+      h-8860 = refl;
+      h-5050 = refl;
+      l-70000 = refl;
+      h-70000 = refl;
+      l-70001 = refl;
+      below-70 = lit< tt;
+    }

@@ -1,0 +1,15 @@
+use borrow.Author.Tests.{lt-ltb, le-ltb}
+use mathlib.Core.Path.{refl}
+use Rattle.reference.proofs.Kv40.new.Statement.{statement}
+use Rattle.reference.proofs.Kv40.new.Tie as tie
+use Rattle.reference.proofs.Kv40.new.Reads as reads
+use Rattle.reference.proofs.Kv40.new.Lts as lts
+
+returns : tie.Need-returns
+returns c = (simp (lt-ltb _ _ (c .if1 .taken)), (refl, refl))
+
+returns-2 : tie.Need-returns-2
+returns-2 c = (simp (le-ltb _ _ (c .if1 .left)), (refl, refl))
+
+pub new-spec : {M : Type 1} → statement M
+new-spec = tie.close (tie.spec returns returns-2)

@@ -1,0 +1,34 @@
+use native.Mathlib.Omega.{arith}
+use Rattle.reference.proofs.Places.{Stands, stands}
+use Rattle.reference.specs.Basis.{H-at}
+use borrow.Author.Tests.{le-leb, lt-leb}
+use mathlib.Core.Path.{_≡_, _∙_}
+use borrow.Author.Needs.{needs}
+use Rattle.reference.proofs.h_at.Statement.{statement}
+use Rattle.reference.proofs.h_at.Tie as tie
+use Rattle.reference.proofs.h_at.Reads as reads
+use Rattle.reference.proofs.h_at.Lts as lts
+use Rattle.reference.proofs.at_place.Reads as at-place-reads
+use Rattle.reference.proofs.locate.Reads as locate-reads
+use Rattle.reference.proofs.quadratic.Reads as quadratic-reads
+
+locate-requires : tie.Need-locate-requires
+locate-requires c κs = search needs
+
+at-place-requires : tie.Need-at-place-requires
+at-place-requires c κs = let s : Stands (c .before .before .args .y .thousandths) (c .locate .result) = rw (c .locate .ensures) (stands _ (c .before .before .pre .1 .0) (c .before .if1 .taken)) in (c .before .before .pre .0, (omega arith, s .row, s .inside, s .next))
+
+quadratic-requires : tie.Need-quadratic-requires
+quadratic-requires c κs = search needs
+
+returns : tie.Need-returns
+unfolding H-at
+returns c = c .at-place .ensures ∙ simp (le-leb _ _ (c .before .before .if1 .taken), c .before .locate .ensures)
+
+returns-2 : tie.Need-returns-2
+unfolding H-at
+returns-2 c = c .quadratic .ensures ∙ simp (lt-leb _ _ (c .before .if1 .left))
+
+pub h-at-spec : {M : Type 1} → statement M
+h-at-spec =
+    tie.close (tie.spec locate-requires at-place-requires quadratic-requires returns returns-2)

@@ -1,0 +1,39 @@
+use Prim.Native.Nat.{_≤_, _*_}
+use native.Mathlib.Nat.{mul-le-mul}
+use native.Mathlib.Omega.{arith}
+use borrow.Author.Needs.{needs}
+use Rattle.reference.proofs.quadratic.Statement.{statement}
+use Rattle.reference.proofs.quadratic.Tie as tie
+use Rattle.reference.proofs.quadratic.Reads as reads
+use Rattle.reference.proofs.quadratic.Lts as lts
+
+square : (c : tie.Start) → c .args .y * c .args .y ≤ 500000 * 500000
+square c = mul-le-mul {n₂ = 500000} {m₂ = 500000} (omega arith) (omega arith)
+
+squared : (c : tie.Start) → c .args .a * (c .args .y * c .args .y) ≤ 10000 * (500000 * 500000)
+squared c = mul-le-mul {n₂ = 10000} {m₂ = 500000 * 500000} (omega arith) (square c)
+
+times : (c : tie.Start) → c .args .b * c .args .y ≤ 150000000 * 500000
+times c = mul-le-mul {n₂ = 150000000} {m₂ = 500000} (omega arith) (omega arith)
+
+mul-result : tie.Need-mul-result
+mul-result c = omega (arith, square c)
+
+mul-result-2 : tie.Need-mul-result-2
+mul-result-2 c = omega (arith, squared c)
+
+mul-result-3 : tie.Need-mul-result-3
+mul-result-3 c = omega (arith, times c)
+
+add-result : tie.Need-add-result
+add-result c = omega (arith, squared c, times c)
+
+sub-result : tie.Need-sub-result
+sub-result c = search needs
+
+returns : tie.Need-returns
+returns c = search needs
+
+pub quadratic-spec : {M : Type 1} → statement M
+quadratic-spec =
+    tie.close (tie.spec mul-result mul-result-2 mul-result-3 add-result sub-result returns)

@@ -1,0 +1,5 @@
+pub mod Viscosity
+pub mod Table1
+pub mod Basis
+pub mod Rise
+pub mod Examples
