@@ -1,3 +1,4 @@
 pub mod Computed
 pub mod Order
 pub mod Powers
+pub mod Rising

@@ -4,4 +4,5 @@ pub mod Exact
 pub mod Rise
 pub mod Bounds
 pub mod Range
+pub mod Climb
 pub mod Examples

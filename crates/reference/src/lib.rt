@@ -72,6 +72,14 @@ impl Kv40 {
     }
 }
 
+// The viscosity of the table's last row. The quadratics begin above it, and do not meet the table there.
+const LAST_ROW: u32 = 70_000;
+
+// The two columns of a row.
+const COLUMN_L: usize = 0;
+
+const COLUMN_H: usize = 1;
+
 // Where a viscosity stands in Table 1: the row at or below it, counted from 0, and how far it is on the way from that row to the
 // next one, in thousandths of the way.
 pub struct Place {
@@ -121,7 +129,7 @@ fn in_units(entry: u32) -> u64
     (entry as u64) * 10_000_000
 }
 
-// L (column 0) or H (column 1) at a place of the table.
+// L or H, by its column, at a place of the table.
 fn at_place(rows: &[u32; 622], column: usize, p: Place) -> u64
     requires lent { ⌜ now rows ≡ table1 ⌝ }
     requires { ⌜ (column < 2) × (p .row < 311) × (p .share < 1000) × ((p .share ≡ 0 → ⊥) → p .row + 1 < 311) ⌝ }
@@ -151,8 +159,8 @@ pub fn l_at(rows: &[u32; 622], y: Kv100) -> u64
     ensures { λ r. ⌜ r ≡ L-at (y .thousandths) ⌝ }
 {
     let x = y.thousandths;
-    if x <= 70_000 {
-        at_place(rows, 0, locate(x))
+    if x <= LAST_ROW {
+        at_place(rows, COLUMN_L, locate(x))
     } else {
         quadratic(8_353, 146_700_000, 2_160_000_000_000, x)
     }
@@ -165,8 +173,8 @@ pub fn h_at(rows: &[u32; 622], y: Kv100) -> u64
     ensures { λ r. ⌜ r ≡ H-at (y .thousandths) ⌝ }
 {
     let x = y.thousandths;
-    if x <= 70_000 {
-        at_place(rows, 1, locate(x))
+    if x <= LAST_ROW {
+        at_place(rows, COLUMN_H, locate(x))
     } else {
         quadratic(1_684, 118_500_000, 970_000_000_000, x)
     }

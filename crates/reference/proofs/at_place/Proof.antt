@@ -1,15 +1,13 @@
+-- A place's value: what is read from the lent rows is the table's entry; on a row the next one is not read.
+-- Assumes nothing.
+use mathlib.Core.Path.{_≡_, _∙_}
+use native.Mathlib.Omega.{arith}
+use borrow.Author.Tests.{eq-eqb, ne-eqb}
+use borrow.Author.Needs.{needs}
 use Rattle.reference.specs.Basis.{entry, atPlace}
 use Rattle.reference.specs.Table1.{table1}
-use borrow.Author.Tests.{eq-eqb, ne-eqb}
-use native.Mathlib.Omega.{arith}
-use mathlib.Core.Path.{_≡_, _∙_}
-use borrow.Author.Needs.{needs}
 use Rattle.reference.proofs.at_place.Statement.{statement}
 use Rattle.reference.proofs.at_place.Tie as tie
-use Rattle.reference.proofs.at_place.Reads as reads
-use Rattle.reference.proofs.at_place.Lts as lts
-use Rattle.reference.proofs.in_units.Reads as in-units-reads
-use Rattle.reference.proofs.line.Reads as line-reads
 
 mul-in-units : tie.Need-mul-in-units
 mul-in-units c = search needs

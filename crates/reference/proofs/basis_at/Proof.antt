@@ -1,12 +1,10 @@
+-- L and H together are those of the two functions.
+-- Assumes nothing.
 use Prim.Native.Nat.{ℕ}
 use mathlib.Core.Path.{_≡_, ap₂}
 use borrow.Author.Needs.{needs}
 use Rattle.reference.proofs.basis_at.Statement.{statement}
 use Rattle.reference.proofs.basis_at.Tie as tie
-use Rattle.reference.proofs.basis_at.Reads as reads
-use Rattle.reference.proofs.basis_at.Lts as lts
-use Rattle.reference.proofs.h_at.Reads as h-at-reads
-use Rattle.reference.proofs.l_at.Reads as l-at-reads
 
 l-at-requires : tie.Need-l-at-requires
 l-at-requires c κs = search needs

@@ -1,22 +1,19 @@
+-- L: the place of y up to 70,000 is in the table; above it the quadratic is the definition's.
+-- Assumes nothing.
+use mathlib.Core.Path.{_≡_, _∙_}
 use native.Mathlib.Omega.{arith}
+use borrow.Author.Tests.{le-leb, lt-leb}
+use borrow.Author.Needs.{needs}
 use Rattle.reference.proofs.Places.{Stands, stands}
 use Rattle.reference.specs.Basis.{L-at}
-use borrow.Author.Tests.{le-leb, lt-leb}
-use mathlib.Core.Path.{_≡_, _∙_}
-use borrow.Author.Needs.{needs}
 use Rattle.reference.proofs.l_at.Statement.{statement}
 use Rattle.reference.proofs.l_at.Tie as tie
-use Rattle.reference.proofs.l_at.Reads as reads
-use Rattle.reference.proofs.l_at.Lts as lts
-use Rattle.reference.proofs.at_place.Reads as at-place-reads
-use Rattle.reference.proofs.locate.Reads as locate-reads
-use Rattle.reference.proofs.quadratic.Reads as quadratic-reads
 
 locate-requires : tie.Need-locate-requires
 locate-requires c κs = search needs
 
 at-place-requires : tie.Need-at-place-requires
-at-place-requires c κs = let s : Stands (c .before .before .args .y .thousandths) (c .locate .result) = rw (c .locate .ensures) (stands _ (c .before .before .pre .1 .0) (c .before .if1 .taken)) in (c .before .before .pre .0, (omega arith, s .row, s .inside, s .next))
+at-place-requires c κs = let s : Stands (c .before .before .args .y .thousandths) (c .locate .result) = rw (c .locate .ensures) (stands _ (c .before .before .pre .1 .0) (omega arith)) in (c .before .before .pre .0, (omega arith, s .row, s .inside, s .next))
 
 quadratic-requires : tie.Need-quadratic-requires
 quadratic-requires c κs = search needs

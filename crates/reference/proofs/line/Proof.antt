@@ -1,11 +1,11 @@
+-- The line: each product has a weight of at most 1,000 on a number of 32 bits, so all fits 64 bits.
+-- Assumes nothing.
 use Prim.Native.Nat.{_≤_, _*_, _-_}
 use native.Mathlib.Nat.{mul-le-mul}
 use native.Mathlib.Omega.{arith}
 use borrow.Author.Needs.{needs}
 use Rattle.reference.proofs.line.Statement.{statement}
 use Rattle.reference.proofs.line.Tie as tie
-use Rattle.reference.proofs.line.Reads as reads
-use Rattle.reference.proofs.line.Lts as lts
 
 -- each product is a weight of at most 1,000 on a number of 32 bits
 first : (c : tie.Start) → c .args .a * (1000 - c .args .share) ≤ 4294967296 * 1000

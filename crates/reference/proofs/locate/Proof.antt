@@ -1,14 +1,13 @@
-use Rattle.reference.specs.declared.Place.{Place}
+-- The row and the share of the way: in each of the three ranges `along` is y in thousandths of the spacing, past row 0.
+-- Assumes nothing.
 use Prim.Native.Nat.{ℕ}
 use mathlib.Core.Path.{_≡_, _∙_, ap₂}
-use borrow.Author.Tests.{lt-ltb, le-ltb}
 use native.Mathlib.Omega.{arith}
+use borrow.Author.Tests.{lt-ltb, le-ltb}
 use borrow.Author.Needs.{needs}
+use Rattle.reference.specs.declared.Place.{Place}
 use Rattle.reference.proofs.locate.Statement.{statement}
 use Rattle.reference.proofs.locate.Tie as tie
-use Rattle.reference.proofs.locate.Reads as reads
-use Rattle.reference.proofs.locate.Lts as lts
-use Rattle.reference.proofs.place_along.Reads as place-along-reads
 
 made : (p : Place) (r s : ℕ) → p .row ≡ r → p .share ≡ s → p ≡ record { row = r; share = s }
 made p r s a b = ap₂ (λ (r : ℕ) (s : ℕ). record { row = r; share = s }) a b

@@ -1,11 +1,11 @@
+-- The quadratic: y is at most 500,000, so all fits 64 bits.
+-- Assumes nothing.
 use Prim.Native.Nat.{_≤_, _*_}
 use native.Mathlib.Nat.{mul-le-mul}
 use native.Mathlib.Omega.{arith}
 use borrow.Author.Needs.{needs}
 use Rattle.reference.proofs.quadratic.Statement.{statement}
 use Rattle.reference.proofs.quadratic.Tie as tie
-use Rattle.reference.proofs.quadratic.Reads as reads
-use Rattle.reference.proofs.quadratic.Lts as lts
 
 square : (c : tie.Start) → c .args .y * c .args .y ≤ 500000 * 500000
 square c = mul-le-mul {n₂ = 500000} {m₂ = 500000} (omega arith) (omega arith)

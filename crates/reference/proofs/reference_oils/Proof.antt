@@ -1,15 +1,13 @@
+-- The request: the constructor asks the two questions; the copied constant is the table.
+-- Assumes nothing.
+use mathlib.Core.Path.{_≡_, refl, sym, ap, _∙_}
+use native.Mathlib.Omega.{arith}
+use borrow.Author.Needs.{needs}
 use Rattle.reference.proofs.Asked.{within100, ofAsked, reference-asked}
 use Rattle.reference.specs.Table1.{table1}
 use Rattle.reference.specs.declared.Reference.the-variants.{Oils}
-use native.Mathlib.Omega.{arith}
-use mathlib.Core.Path.{_≡_, refl, sym, ap, _∙_}
-use borrow.Author.Needs.{needs}
 use Rattle.reference.proofs.reference_oils.Statement.{statement}
 use Rattle.reference.proofs.reference_oils.Tie as tie
-use Rattle.reference.proofs.reference_oils.Reads as reads
-use Rattle.reference.proofs.reference_oils.Lts as lts
-use Rattle.reference.proofs.Kv100.new.Reads as new-reads
-use Rattle.reference.proofs.basis_at.Reads as basis-at-reads
 
 new-requires : tie.Need-new-requires
 new-requires c κs = search needs

@@ -1,9 +1,9 @@
-use borrow.Author.Tests.{lt-ltb, le-ltb}
+-- Question 3: each return rewrites the definition by the test that led to it.
+-- Assumes nothing.
 use mathlib.Core.Path.{refl}
+use borrow.Author.Tests.{lt-ltb, le-ltb}
 use Rattle.reference.proofs.Kv40.new.Statement.{statement}
 use Rattle.reference.proofs.Kv40.new.Tie as tie
-use Rattle.reference.proofs.Kv40.new.Reads as reads
-use Rattle.reference.proofs.Kv40.new.Lts as lts
 
 returns : tie.Need-returns
 returns c = (simp (lt-ltb _ _ (c .if1 .taken)), (refl, refl))
