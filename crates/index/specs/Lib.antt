@@ -1,0 +1,4 @@
+pub mod Questions
+pub mod ProcedureA
+pub mod ProcedureB
+pub mod Answer
