@@ -1,8 +1,8 @@
 -- Laws of powers whose exponents are variables, so that a crate can use them at an exponent that no check may compute.
 -- Assumes nothing.
-use mathlib.Core.Path.{_≡_, refl, sym, ap, _∙_, subst}
+use mathlib.Core.Path.{_≡_, refl, sym, ap, _∙_, subst, subst₂}
 use Prim.Native.Nat.{ℕ, zero, suc, _+_, _*_, _^_, _≤_, _<_}
-use native.Mathlib.Nat.{le-refl, lt-of-not-le, mul-assoc, mul-comm, mul-left-comm, mul-one, one-mul, mul-zero, zero-mul, add-zero, mul-suc, suc-mul, add-mul, mul-add, pow-zero, pow-suc, pow-lt-pow-left, pow-le-pow-left, mul-le-mul-left, mul-le-mul-right}
+use native.Mathlib.Nat.{le-refl, lt-of-not-le, mul-assoc, mul-comm, mul-left-comm, mul-one, one-mul, mul-zero, zero-mul, add-zero, mul-suc, suc-mul, add-mul, mul-add, pow-zero, pow-suc, pow-lt-pow-left, pow-le-pow-left, mul-le-mul-left, mul-le-mul-right, le-of-mul-le-mul-left, le-of-mul-le-mul-right, one-le-pow}
 use native.Mathlib.Decide.{decLe}
 use native.Mathlib.Omega.{arith}
 use lib.Pow.{pow-add, pow-lt}
@@ -80,3 +80,23 @@ steps-at-most M b zero e = simp (pow-zero, add-zero) (le-refl _)
 steps-at-most M b (suc n) e =
     let e' : b + 1 + n ≤ M = omega arith in
     simp pow-suc (steps-step ((M + 1) ^ n) (M ^ n) M b n (omega arith) (steps-at-most M (b + 1) n e'))
+
+-- ---- the gap between two powers
+
+gap-step : (q c d n : ℕ) → 0 < c → c ≤ q * (n * d) → (q + 1) * c ^ n ≤ q * (c + d) ^ n
+gap-step q c d n p h = le-of-mul-le-mul-right {k = c} (algebra (c ^ n) ((c + d) ^ n) q c (n * d) (bernoulli c d n) h) p
+  where
+    algebra : (A B q c e : ℕ) → A * (c + e) ≤ B * c → c ≤ q * e → (q + 1) * A * c ≤ q * B * c
+    algebra A B q c e l h = simp ring (omega (arith, simp ring at (mul-le-mul-left q l), mul-le-mul-left A h))
+
+gap-cancel : (G X Y A B : ℕ) → 0 < X → G * X ≤ Y → Y * A ≤ X * B → G * A ≤ B
+gap-cancel G X Y A B p h l = le-of-mul-le-mul-left {k = X} (simp ring (omega (arith, simp ring at (mul-le-mul-right A h), l))) p
+
+-- d is so large a part of c, at least one of q * n, that the power n * m of c + d is 2^g times that of c. The premise about q is a
+-- certificate (proofs/Certificate.antt of the crate logarithm), or computed.
+pub gap :
+    (g q n m c d : ℕ) → 0 < q → 2 ^ g * q ^ m ≤ (q + 1) ^ m → 0 < c → c ≤ q * (n * d) → 2 ^ g * c ^ (n * m) ≤ (c + d) ^ (n * m)
+gap g q n m c d p f z h =
+    subst₂ (λ (x y : ℕ). 2 ^ g * x ≤ y) (sym (pow-mul c n m)) (sym (pow-mul (c + d) n m))
+    (gap-cancel (2 ^ g) (q ^ m) ((q + 1) ^ m) ((c ^ n) ^ m) (((c + d) ^ n) ^ m) (one-le-pow m q p) f
+    (subst₂ _≤_ (mul-pow (q + 1) (c ^ n) m) (mul-pow q ((c + d) ^ n) m) (pow-le-pow-left (gap-step q c d n z h) m)))

@@ -1,17 +1,10 @@
 -- The power (num / den)^(2^k) between two powers of two, by a test that the checker computes: k squarings of a mantissa that is rounded
 -- after each. Assumes nothing.
 --
--- How to certify a constant, here that log2 10 in units of 1 / E, E = scale, lies between t = 228281160434 and t + 1:
---
---     ten-below : T (atLeast 36 3 10 1 228281160434)
---     unfolding atLeast least
---     ten-below = tt
---
---     ten : 2 ^ 228281160434 * 1 ^ scale ≤ 10 ^ scale
---     ten = least-power 36 3 10 1 228281160434 scale scale-is ten-below
---
--- and from above with `atMost`, `most`, `most-power` and t + 1. The exponent is any name for 2^k; 3 is the whole part of log2 (num / den).
--- A wrong whole part, or a t too near the true logarithm for 128 bits, makes the test fail and shows nothing false.
+-- The tests are `atLeast k s num den t` and `atMost k s num den t`; the laws `least-power` and `most-power` say what they show, and
+-- `whole-least` and `whole-most` say it for a whole number. The last section certifies log2 10, as an example.
+-- The exponent is any name for 2^k, and s is the whole part of log2 (num / den). A wrong s, or a t too near the true logarithm for
+-- mantissas of 128 bits, makes the test fail and shows nothing false.
 use mathlib.Core.Path.{_≡_, sym, ap, _∙_, subst}
 use mathlib.Core.Bool.{Bool, true, false, _&&_}
 use Prim.Native.Nat.{ℕ, zero, suc, _+_, _*_, _/_, _^_, _≤_, _<_}
@@ -20,7 +13,8 @@ use native.Mathlib.Omega.{arith}
 use lib.Dec.{T, ltb, leb, leb→le, ltb→lt, lit<}
 use lib.Pow.{pow-add, pow-pos, pow-mono}
 use Rattle.laws.proofs.Computed.{and-left, and-right}
-use Rattle.laws.proofs.Powers.{ring, pow-twice, pow-one}
+use Rattle.laws.proofs.Powers.{ring, pow-twice, pow-one, one-pow}
+use Rattle.logarithm.specs.Scale.{scale, scale-is}
 
 -- ---- the tests
 
@@ -157,3 +151,24 @@ unfolding atMost
 most-power k s num den t E q e h =
     subst (λ (x : ℕ). num ^ x ≤ 2 ^ t * den ^ x) (one-mul (2 ^ k) ∙ sym e)
     (most-law guard num den (lit< tt) k 1 (num * guard / (2 ^ s * den) + 1) s t h (above-start guard num den (lit< tt) s q))
+
+-- the same for a whole number
+pub whole-least : (k s x t E : ℕ) → E ≡ 2 ^ k → T (atLeast k s x 1 t) → 2 ^ t ≤ x ^ E
+whole-least k s x t E e h = subst (λ (y : ℕ). y ≤ x ^ E) (ap (λ (y : ℕ). 2 ^ t * y) (one-pow E) ∙ mul-one (2 ^ t)) (least-power k s x 1 t E e h)
+
+pub whole-most : (k s x t E : ℕ) → E ≡ 2 ^ k → T (atMost k s x 1 t) → x ^ E ≤ 2 ^ t
+whole-most k s x t E e h =
+    subst (λ (y : ℕ). x ^ E ≤ y) (ap (λ (y : ℕ). 2 ^ t * y) (one-pow E) ∙ mul-one (2 ^ t)) (most-power k s x 1 t E (omega arith) e h)
+
+-- ---- an example: log2 10, in units of 1 / E, is between 228281160435 and 228281160436; its whole part is 3
+
+ten-least : T (atLeast 36 3 10 1 228281160435)
+unfolding atLeast least
+ten-least = tt
+
+ten-most : T (atMost 36 3 10 1 228281160436)
+unfolding atMost most
+ten-most = tt
+
+log2-ten : (2 ^ 228281160435 ≤ 10 ^ scale) × (10 ^ scale ≤ 2 ^ 228281160436)
+log2-ten = (whole-least 36 3 10 228281160435 scale scale-is ten-least, whole-most 36 3 10 228281160436 scale scale-is ten-most)

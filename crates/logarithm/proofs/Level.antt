@@ -175,6 +175,9 @@ small-at c i h = entry-at c i h .small
 abbrev pub firstWidth : ℕ
 firstWidth = 6
 
+abbrev pub secondWidth : ℕ
+secondWidth = 1
+
 -- what the second level leaves is below unit + lineRoom
 abbrev pub lineRoom : ℕ
 lineRoom = 4328391680
@@ -183,6 +186,6 @@ pub first-certified : Certified firstDivisor firstSpacing (256 * secondSpacing) 
 unfolding firstTable entryTest atLeast atMost least most
 first-certified = record { count = refl; right = tt }
 
-pub second-certified : Certified secondDivisor secondSpacing lineRoom 1 256 secondTable
+pub second-certified : Certified secondDivisor secondSpacing lineRoom secondWidth 256 secondTable
 unfolding secondTable entryTest atLeast atMost least most
 second-certified = record { count = refl; right = tt }

@@ -1,18 +1,18 @@
 -- What holds of `log2Of`: it encloses the logarithm. And what the proofs of the code cite. Assumes nothing.
 use mathlib.Core.Path.{_≡_, refl, sym, ap, _∙_, subst}
 use mathlib.Core.List.{List}
-use Prim.Native.Nat.{ℕ, suc, _+_, _*_, _-_, _/_, _%_, _^_, _≤_, _<_}
-use native.Mathlib.Nat.{le-trans, le-of-eq, lt-of-le-of-lt, lt-of-not-le, mul-assoc, mul-le-mul-left, mul-le-mul-right, le-of-mul-le-mul-right, mul-lt-mul-of-pos-right, add-mul, mod-eq-of-lt, pow-lt-pow-left}
+use Prim.Native.Nat.{ℕ, zero, suc, _+_, _*_, _-_, _/_, _%_, _^_, _≤_, _<_}
+use native.Mathlib.Nat.{le-trans, le-of-eq, lt-of-le-of-lt, lt-of-not-le, mul-assoc, mul-le-mul-left, mul-le-mul-right, le-of-mul-le-mul-right, mul-lt-mul-of-pos-right, add-mul, mod-eq-of-lt, pow-suc, pow-lt-pow-left}
 use native.Mathlib.Omega.{arith}
 use lib.Pow.{pow-add, pow-pos, pow-mono}
-use lib.Count.{leadingZeros, leading-top}
+use lib.Count.{leadingZeros, leading-length}
 use lib.ListN.{getD}
 use Rattle.laws.proofs.Order.{by-order}
 use Rattle.laws.proofs.Powers.{mul-pow, pow-mul, exponents-le}
 use Rattle.logarithm.specs.Scale.{scale, scale-is, scaleNumber, width, unit, bound}
 use Rattle.logarithm.specs.Tables.{firstTable, secondTable}
-use Rattle.logarithm.specs.Log2.{packing, firstSpacing, firstDivisor, secondSpacing, secondDivisor, slope, slopeDivisor, mantissa, entryOf, timesFactor, taken, left, lineOf, restOf, fractionOf, log2Of, Enclosed, InRange, Lent, Reduces}
-use Rattle.logarithm.proofs.Level.{Certified, Step, level, firstWidth, lineRoom, first-certified, second-certified}
+use Rattle.logarithm.specs.Log2.{packing, firstSpacing, firstDivisor, secondSpacing, secondDivisor, slope, slopeDivisor, zerosOf, mantissa, entryOf, timesFactor, taken, left, lineOf, restOf, fractionOf, log2Of, Enclosed, InRange, Reduces}
+use Rattle.logarithm.proofs.Level.{Certified, Step, level, firstWidth, secondWidth, lineRoom, first-certified, second-certified}
 use Rattle.logarithm.proofs.Line.{OnLine, line, lineWidth}
 
 -- ---- the mantissa: two levels and the line
@@ -46,67 +46,83 @@ first-step m l h = level first-certified m (omega arith) l (omega arith)
 
 pub second-step :
     (m : ℕ) → unit ≤ m → m < unit + 256 * secondSpacing
-    → Step lineRoom 1 m (left secondTable secondSpacing secondDivisor m) (taken secondTable secondSpacing m)
+    → Step lineRoom secondWidth m (left secondTable secondSpacing secondDivisor m) (taken secondTable secondSpacing m)
 second-step m l h = level second-certified m (omega arith) l h
 
-rest-law : (m : ℕ) → unit ≤ m → m < unit + 256 * secondSpacing → Fraction m (restOf m) 14
+rest-law : (m : ℕ) → unit ≤ m → m < unit + 256 * secondSpacing → Fraction m (restOf m) (secondWidth + lineWidth)
 unfolding restOf
 rest-law m l h =
     let s = second-step m l h in
     let r = line (left secondTable secondSpacing secondDivisor m) (s .least) (s .most) in
     prepend s (lineOf (left secondTable secondSpacing secondDivisor m)) lineWidth (record { below = r .below; above = r .above })
 
+-- what each part may be too low by adds up to the width
+widths : firstWidth + (secondWidth + lineWidth) ≡ width
+widths = refl
+
 fraction-law : (m : ℕ) → unit ≤ m → m < 2 * unit → Fraction m (fractionOf m) width
 unfolding fractionOf
 fraction-law m l h =
     let s = first-step m l h in
-    prepend s (restOf (left firstTable firstSpacing firstDivisor m)) 14 (rest-law (left firstTable firstSpacing firstDivisor m) (s .least) (s .most))
+    let a : ℕ = left firstTable firstSpacing firstDivisor m in
+    subst (λ (w : ℕ). Fraction m (taken firstTable firstSpacing m + restOf a) w) widths
+    (prepend s (restOf a) (secondWidth + lineWidth) (rest-law a (s .least) (s .most)))
 
 -- ---- the number
 
--- the leading zeros of x, and x shifted up to 49 bits
+-- j is the whole part of the logarithm of x: the length of x / 2 in bits
+pub record Whole (x j : ℕ) : Type 0 where
+  pub zeros : zerosOf x + j ≡ 64
+  pub least : 2 ^ j ≤ x
+  pub most : x < 2 ^ suc j
+
+pub whole-part : (x : ℕ) → InRange x → (j : ℕ) × Whole x j
+unfolding zerosOf
+whole-part x r =
+    let t = leading-length 64 (x / 2) (omega (arith, r .most)) in
+    (t .0, record { zeros = t .1; least = least (t .0) (t .3); most = omega (arith, pow-suc 2 (t .0), t .2) })
+  where
+    least : (j : ℕ) → 2 ^ j ≤ 2 * (x / 2) + 1 → 2 ^ j ≤ x
+    least zero h = omega (arith, r .least)
+    least (suc j) h = omega (arith, pow-suc 2 j)
+
+-- the zeros of x / 2, and x shifted up to 49 bits
 pub record Normal (x : ℕ) : Type 0 where
-  pub few : 15 ≤ leadingZeros 64 x
-  pub many : leadingZeros 64 x ≤ 63
+  pub few : 16 ≤ zerosOf x
+  pub many : zerosOf x ≤ 64
   pub least : unit ≤ mantissa x
   pub most : mantissa x < 2 * unit
-
-normal-at :
-    (x z j : ℕ) → InRange x → z + suc j ≡ 64 → 2 ^ j ≤ x → x < 2 ^ suc j
-    → (15 ≤ z) × (z ≤ 63) × (unit ≤ x * 2 ^ (z - 15)) × (x * 2 ^ (z - 15) < 2 * unit)
-normal-at x z j r e l u =
-    let k : j < 49 = lt-of-pow j 49 (lt-of-le-of-lt l (r .most)) in
-    let s : j + (z - 15) ≡ 48 = omega arith in
-    let s' : suc j + (z - 15) ≡ 49 = omega arith in (
-      omega arith,
-      omega arith,
-      subst (λ (y : ℕ). y ≤ x * 2 ^ (z - 15)) (sym (pow-add 2 j (z - 15)) ∙ ap (λ (y : ℕ). 2 ^ y) s) (mul-le-mul-right (2 ^ (z - 15)) l),
-      subst (λ (y : ℕ). x * 2 ^ (z - 15) < y) (sym (pow-add 2 (suc j) (z - 15)) ∙ ap (λ (y : ℕ). 2 ^ y) s') (mul-lt-mul-of-pos-right u (pow-pos (z - 15))),
-    )
-  where
-    lt-of-pow : (a b : ℕ) → 2 ^ a < 2 ^ b → a < b
-    lt-of-pow a b g = by-order a b (λ q. q) (λ q. let r : 2 ^ b ≤ 2 ^ a = pow-mono q in absurd (omega arith))
 
 pub normal : (x : ℕ) → InRange x → Normal x
 unfolding mantissa
 normal x r =
-    let t = leading-top 64 x (r .least) (omega (arith, r .most)) in
-    let n = normal-at x (leadingZeros 64 x) (t .0) r (t .1) (t .2) (t .3) in
-    record { few = n .0; many = n .1; least = n .2; most = n .3 }
+    let t = whole-part x r in
+    let j : ℕ = t .0 in
+    let z : ℕ = zerosOf x in
+    let w : Whole x j = t .1 in
+    let k : j < 49 = by-order j 49 (λ q. q) (λ q. let p : 2 ^ 49 ≤ 2 ^ j = pow-mono q in absurd (omega (arith, w .least, r .most))) in
+    let s : j + (z - 16) ≡ 48 = omega (arith, w .zeros) in
+    let s' : suc j + (z - 16) ≡ 49 = omega (arith, w .zeros) in
+    record {
+      few = omega (arith, w .zeros);
+      many = omega (arith, w .zeros);
+      least = subst (λ (y : ℕ). y ≤ x * 2 ^ (z - 16)) (sym (pow-add 2 j (z - 16)) ∙ ap (λ (y : ℕ). 2 ^ y) s) (mul-le-mul-right (2 ^ (z - 16)) (w .least));
+      most = subst (λ (y : ℕ). x * 2 ^ (z - 16) < y) (sym (pow-add 2 (suc j) (z - 16)) ∙ ap (λ (y : ℕ). 2 ^ y) s') (mul-lt-mul-of-pos-right (w .most) (pow-pos (z - 16)));
+    }
 
 -- from the mantissa m = x * 2^s back to x, where s + k = 48
 module _ (x s k : ℕ) (e : s + k ≡ 48) where
   shifted-power : (x * 2 ^ s) ^ scale ≡ x ^ scale * 2 ^ (s * scale)
   shifted-power = mul-pow x (2 ^ s) scale ∙ ap (λ (y : ℕ). x ^ scale * y) (sym (pow-mul 2 s scale))
 
-  whole-part : 48 * scale ≡ k * scaleNumber + s * scale
-  whole-part =
+  shift-and-whole : 48 * scale ≡ k * scaleNumber + s * scale
+  shift-and-whole =
       ap (λ (y : ℕ). y * scale) (sym e) ∙ add-mul s k scale
       ∙ (let q : k * scale ≡ k * scaleNumber = ap (λ (y : ℕ). k * y) scale-is in omega arith)
 
   unit-power : (g : ℕ) → 2 ^ g * unit ^ scale ≡ 2 ^ (g + k * scaleNumber) * 2 ^ (s * scale)
   unit-power g =
-      ap (λ (y : ℕ). 2 ^ g * y) (sym (pow-mul 2 48 scale) ∙ ap (λ (y : ℕ). 2 ^ y) whole-part ∙ pow-add 2 (k * scaleNumber) (s * scale))
+      ap (λ (y : ℕ). 2 ^ g * y) (sym (pow-mul 2 48 scale) ∙ ap (λ (y : ℕ). 2 ^ y) shift-and-whole ∙ pow-add 2 (k * scaleNumber) (s * scale))
       ∙ sym (mul-assoc (2 ^ g) (2 ^ (k * scaleNumber)) (2 ^ (s * scale)))
       ∙ ap (λ (y : ℕ). y * 2 ^ (s * scale)) (sym (pow-add 2 g (k * scaleNumber)))
 
@@ -114,9 +130,9 @@ module _ (x s k : ℕ) (e : s + k ≡ 48) where
   shift-back f h = (
     le-of-mul-le-mul-right {k = 2 ^ (s * scale)} (rw (← shifted-power, ← unit-power f) (h .below)) (pow-pos (s * scale)),
     le-of-mul-le-mul-right {k = 2 ^ (s * scale)}
-    (rw (← shifted-power)
-    (subst (λ (y : ℕ). (x * 2 ^ s) ^ scale ≤ 2 ^ y * 2 ^ (s * scale)) (let q : f + width + k * scaleNumber ≡ f + k * scaleNumber + width = omega arith in q)
-    (rw (← unit-power (f + width)) (h .above)))) (pow-pos (s * scale)),
+        (rw (← shifted-power)
+        (subst (λ (y : ℕ). (x * 2 ^ s) ^ scale ≤ 2 ^ y * 2 ^ (s * scale)) (let q : f + width + k * scaleNumber ≡ f + k * scaleNumber + width = omega arith in q)
+        (rw (← unit-power (f + width)) (h .above)))) (pow-pos (s * scale)),
   )
 
 -- x is below 2^49, so its logarithm is below 49 * E
@@ -131,15 +147,9 @@ unfolding log2Of mantissa
 log2-enclosed x r =
     let n = normal x r in
     let h =
-    shift-back x (leadingZeros 64 x - 15) (63 - leadingZeros 64 x) (omega (arith, n .few, n .many)) (fractionOf (mantissa x))
+    shift-back x (zerosOf x - 16) (64 - zerosOf x) (omega (arith, n .few, n .many)) (fractionOf (mantissa x))
     (fraction-law (mantissa x) (n .least) (n .most)) in
     record { value = refl; below = h .0; above = h .1; small = below-bound x (log2Of x) (r .most) (h .0) }
-
--- ---- for a caller of log2_scaled
-
--- copies of FIRST and SECOND are the tables
-pub lent : Lent firstTable secondTable
-lent = record { one = refl; two = refl }
 
 -- ---- for the proofs of the code
 
@@ -164,10 +174,10 @@ pub fraction-computed :
 unfolding fractionOf restOf lineOf
 fraction-computed m a b k l r s = rw (r .log, s .log, s .mantissa, r .mantissa)
 
-pub shift-fits : (x : ℕ) → InRange x → (x * 2 ^ (leadingZeros 64 x - 15)) % 18446744073709551616 ≡ mantissa x
-unfolding mantissa
+pub shift-fits : (x : ℕ) → InRange x → (x * 2 ^ (leadingZeros 64 (x / 2) - 16)) % 18446744073709551616 ≡ mantissa x
+unfolding mantissa zerosOf
 shift-fits x r = let n = normal x r in mod-eq-of-lt (omega (arith, n .most))
 
-pub log2-computed : (x f : ℕ) → f ≡ fractionOf (mantissa x) → f + (63 - leadingZeros 64 x) * scaleNumber ≡ log2Of x
-unfolding log2Of
-log2-computed x f e = ap (λ (y : ℕ). y + (63 - leadingZeros 64 x) * scaleNumber) e
+pub log2-computed : (x f : ℕ) → f ≡ fractionOf (mantissa x) → f + (64 - leadingZeros 64 (x / 2)) * scaleNumber ≡ log2Of x
+unfolding log2Of zerosOf
+log2-computed x f e = ap (λ (y : ℕ). y + (64 - leadingZeros 64 (x / 2)) * scaleNumber) e

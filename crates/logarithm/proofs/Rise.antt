@@ -8,15 +8,14 @@ use native.Mathlib.Nat.{le-refl, le-trans, lt-of-le-of-lt, lt-of-lt-of-le, add-m
 use native.Mathlib.Omega.{arith}
 use lib.Dec.{T, leb, leb→le}
 use lib.Pow.{pow-pos, pow-mono}
-use lib.Count.{leadingZeros, leading-top}
 use lib.ListN.{getD}
 use Rattle.laws.proofs.Computed.{upTo, below}
 use Rattle.laws.proofs.Order.{by-order}
 use Rattle.logarithm.specs.Scale.{scaleNumber, unit}
 use Rattle.logarithm.specs.Tables.{firstTable, secondTable}
-use Rattle.logarithm.specs.Log2.{packing, firstSpacing, firstDivisor, secondSpacing, secondDivisor, slope, slopeDivisor, mantissa, entryOf, timesFactor, taken, left, lineOf, restOf, fractionOf, log2Of, InRange}
+use Rattle.logarithm.specs.Log2.{packing, firstSpacing, firstDivisor, secondSpacing, secondDivisor, slope, slopeDivisor, zerosOf, mantissa, entryOf, timesFactor, taken, left, lineOf, restOf, fractionOf, log2Of, InRange}
 use Rattle.logarithm.proofs.Level.{Certified, small-at, factor-rounds-down, place, place-in, first-certified, second-certified}
-use Rattle.logarithm.proofs.Log2.{normal, first-step, second-step}
+use Rattle.logarithm.proofs.Log2.{whole-part, normal, first-step, second-step}
 
 -- ---- a function that rises within each place and from each place to the next
 
@@ -40,7 +39,7 @@ module _ (f : ℕ → ℕ) (S n : ℕ) (some : 0 < S)
       low : (m - unit) / S < i → ⊥
       low q =
           let r = place S m (omega arith) some .1 in
-          let k : (m - unit) / S + 1 ≤ i = q in
+          let k : (m - unit) / S + 1 ≤ i = omega arith in
           omega (arith, mul-le-mul-right S k)
 
   -- from m in place i to m' in place i + k
@@ -71,7 +70,7 @@ module _ (f : ℕ → ℕ) (S n : ℕ) (some : 0 < S)
       backwards q =
           let p = place S m l some .0 in
           let p' = place S m' (omega arith) some .1 in
-          let k : (m' - unit) / S + 1 ≤ (m - unit) / S = q in
+          let k : (m' - unit) / S + 1 ≤ (m - unit) / S = omega arith in
           omega (arith, mul-le-mul-right S k)
 
 -- ---- within a place
@@ -156,23 +155,26 @@ pub fraction-rises : (m m' : ℕ) → unit ≤ m → m ≤ m' → m' < 2 * unit 
 fraction-rises m m' l o h = rises-in-places fractionOf firstSpacing 256 (omega arith) fraction-within fraction-across m m' l o (omega arith)
 
 -- a mantissa's logarithm is at most 1
+end-tested : T (leb (fractionOf (2 * unit - 1)) scaleNumber)
+unfolding fractionOf restOf lineOf left taken entryOf timesFactor firstTable secondTable
+end-tested = tt
+
 fraction-at-end : fractionOf (2 * unit - 1) ≤ scaleNumber
-fraction-at-end = leb→le _ _ computed
-  where
-    computed : T (leb (fractionOf (2 * unit - 1)) scaleNumber)
-    unfolding fractionOf restOf lineOf left taken entryOf timesFactor firstTable secondTable
-    computed = tt
+fraction-at-end = leb→le _ _ end-tested
 
 -- ---- the whole
 
--- x is at least 2^j, j the whole part of its logarithm, and below the next power
-zeros-fall : (x y : ℕ) → InRange x → InRange y → x ≤ y → leadingZeros 64 y ≤ leadingZeros 64 x
+zeros-fall : (x y : ℕ) → InRange x → InRange y → x ≤ y → zerosOf y ≤ zerosOf x
 zeros-fall x y r s h =
-    let t = leading-top 64 x (r .least) (omega (arith, r .most)) in
-    let u = leading-top 64 y (s .least) (omega (arith, s .most)) in
-    by-order (leadingZeros 64 x) (leadingZeros 64 y)
-    (λ q. let z : 2 ^ suc (u .0) ≤ 2 ^ (t .0) = pow-mono (omega (arith, t .1, u .1)) in absurd (omega (arith, t .2, u .3)))
+    let t = whole-part x r in
+    let u = whole-part y s in
+    by-order (zerosOf x) (zerosOf y)
+    (λ q. let z : 2 ^ suc (u .0) ≤ 2 ^ (t .0) = pow-mono (omega (arith, t .1 .zeros, u .1 .zeros)) in absurd (omega (arith, t .1 .least, u .1 .most)))
     (λ q. q)
+
+mantissa-rises : (x y : ℕ) → x ≤ y → zerosOf x ≡ zerosOf y → mantissa x ≤ mantissa y
+unfolding mantissa
+mantissa-rises x y o e = rw e (mul-le-mul-right (2 ^ (zerosOf y - 16)) o)
 
 pub log2-rises : (x y : ℕ) → 1 ≤ x → x ≤ y → y < 2 * unit → log2Of x ≤ log2Of y
 unfolding log2Of
@@ -182,15 +184,11 @@ log2-rises x y l o h =
     let n = normal x r in
     let k = normal y s in
     let z = zeros-fall x y r s o in
-    by-order (leadingZeros 64 y) (leadingZeros 64 x)
-    (λ (q : leadingZeros 64 y < leadingZeros 64 x).
-      let g : fractionOf (mantissa x) ≤ scaleNumber = le-trans (fraction-rises (mantissa x) (2 * unit - 1) (n .least) (omega (arith, n .most)) (omega arith)) fraction-at-end in
-      omega (arith, n .few, n .many, k .few, k .many))
-    (λ (q : leadingZeros 64 x ≤ leadingZeros 64 y).
-      let e : leadingZeros 64 x ≡ leadingZeros 64 y = omega arith in
-      let g : fractionOf (mantissa x) ≤ fractionOf (mantissa y) = fraction-rises (mantissa x) (mantissa y) (n .least) (mantissa-rises x y o e) (k .most) in
-      omega arith)
-  where
-    mantissa-rises : (x y : ℕ) → x ≤ y → leadingZeros 64 x ≡ leadingZeros 64 y → mantissa x ≤ mantissa y
-    unfolding mantissa
-    mantissa-rises x y o e = rw e (mul-le-mul-right (2 ^ (leadingZeros 64 y - 15)) o)
+    by-order (zerosOf y) (zerosOf x)
+    (λ (q : zerosOf y < zerosOf x).
+    let g : fractionOf (mantissa x) ≤ scaleNumber = le-trans (fraction-rises (mantissa x) (2 * unit - 1) (n .least) (omega (arith, n .most)) (omega arith)) fraction-at-end in
+    omega (arith, n .few, n .many, k .few, k .many))
+    (λ (q : zerosOf x ≤ zerosOf y).
+    let e : zerosOf x ≡ zerosOf y = omega arith in
+    let g : fractionOf (mantissa x) ≤ fractionOf (mantissa y) = fraction-rises (mantissa x) (mantissa y) (n .least) (mantissa-rises x y o e) (k .most) in
+    omega arith)

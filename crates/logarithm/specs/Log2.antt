@@ -37,9 +37,13 @@ slopeDivisor = 1099511627776
 
 -- ---- the value
 
+-- the leading zeros of x / 2, from 16 for 2^48 to 64 for 1: one more than x has
+unfoldable pub zerosOf : ℕ → ℕ
+zerosOf x = leadingZeros 64 (x / 2)
+
 -- x shifted up to 49 bits
 unfoldable pub mantissa : ℕ → ℕ
-mantissa x = x * 2 ^ (leadingZeros 64 x - 15)
+mantissa x = x * 2 ^ (zerosOf x - 16)
 
 -- the entry of the mantissa m in a table whose places are s apart
 unfoldable pub entryOf : List ℕ → ℕ → ℕ → ℕ
@@ -69,7 +73,7 @@ unfoldable pub fractionOf : ℕ → ℕ
 fractionOf m = taken firstTable firstSpacing m + restOf (left firstTable firstSpacing firstDivisor m)
 
 unfoldable pub log2Of : ℕ → ℕ
-log2Of x = fractionOf (mantissa x) + (63 - leadingZeros 64 x) * scaleNumber
+log2Of x = fractionOf (mantissa x) + (64 - zerosOf x) * scaleNumber
 
 -- ---- the promise
 

@@ -25,24 +25,37 @@ ghost use Prim.Native.Nat.{_+_, _*_, _-_, _/_, _≤_, _<_};
 ghost use Rattle.logarithm.specs.Scale.{unit};
 ghost use Rattle.logarithm.specs.Tables.{firstTable, secondTable};
 ghost use Rattle.logarithm.specs.Log2.{Enclosed, InRange, Lent, Reduces, fractionOf, packing};
-
-pub use tables::{FIRST, SECOND};
+use tables::FIRST;
+use tables::SECOND;
 
 // 2^48, which a mantissa counts as 1.
 const UNIT: u64 = 281474976710656;
+
 // E = 2^36, the units of a logarithm in 1.
 const SCALE: u64 = 68719476736;
+
 // An entry is t * PACKING + j.
 const PACKING: u64 = 32768;
+
+// The first level: places 2^40 apart, factors over 2^16.
 const FIRST_SPACING: u64 = 1099511627776;
+
 const FIRST_DIVISOR: u64 = 65536;
+
+// The second level: places 2^32 apart, factors over 2^23.
 const SECOND_SPACING: u64 = 4294967296;
+
 const SECOND_DIVISOR: u64 = 8388608;
+
+// The line: d over UNIT counts d * SLOPE / 2^40.
 const SLOPE: u64 = 387264545;
+
 const SLOPE_DIVISOR: u64 = 1099511627776;
-// The leading zeros of a number of 49 bits, and of 1.
-const MANTISSA_ZEROS: u64 = 15;
-const ONE_ZEROS: u64 = 63;
+
+// The leading zeros of half a mantissa, a number of 48 bits, and of half of 1, which is 0.
+const MANTISSA_ZEROS: u64 = 16;
+
+const ONE_ZEROS: u64 = 64;
 
 // What a level leaves of a mantissa, and the logarithm of the factor that it took out.
 struct Reduced {
@@ -81,8 +94,9 @@ fn fraction(first: &[u64; 256], second: &[u64; 256], m: u64) -> u64
     a.log + (b.log + (b.mantissa - UNIT) * SLOPE / SLOPE_DIVISOR)
 }
 
-// The tables, to be held as locals and lent to log2_scaled. A constant array that is read at a place known only when the program runs
-// is copied whole on each call that reads it, so a caller copies once for many logarithms.
+// The tables, to be held as locals and lent to log2_scaled: what these two promise is what its `Lent` asks for, and `search needs` passes
+// it on. A constant array that is read at a place known only when the program runs is copied whole on each call that reads it, so a
+// caller copies once for many logarithms.
 pub fn first_table() -> [u64; 256]
     ensures { λ r. ⌜ r ≡ firstTable ⌝ }
 {
@@ -95,14 +109,14 @@ pub fn second_table() -> [u64; 256]
     SECOND
 }
 
-// The scaled logarithm of x. It asks for what it needs (`requires`) because it is an inner layer and no operation that a customer
-// reaches: the caller holds the tables as locals, copied once from FIRST and SECOND (a constant array that is read at a place known
-// only when the program runs is copied whole on each call), and shows `Lent` of them by `lent` of proofs/Log2.antt.
+// The scaled logarithm of x. It asks for what it needs because it is an inner layer, and no operation that a customer reaches.
 pub fn log2_scaled(first: &[u64; 256], second: &[u64; 256], x: u64) -> u64
     requires lent { ⌜ Lent (now first) (now second) ⌝ }
     requires range { ⌜ InRange x ⌝ }
     ensures { λ r. ⌜ Enclosed x r ⌝ }
 {
-    let zeros = u64::leading_zeros(x) as u64;
+    // Of x / 2 and not of x: x86's instruction waits for the register that it writes, and the compiler clears that register first only where the
+    // number may be 0. Of x, known not to be 0, each logarithm would wait for the one before (docs/PERFORMANCE.md).
+    let zeros = u64::leading_zeros(x / 2) as u64;
     fraction(first, second, x << (zeros - MANTISSA_ZEROS)) + (ONE_ZEROS - zeros) * SCALE
 }

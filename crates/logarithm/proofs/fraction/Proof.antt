@@ -55,8 +55,7 @@ returns c =
     let first = second .before in
     let start = first .before in
     let e1 : start .args .first .now ≡ firstTable = start .pre .0 .one in
-    let e2 : start .args .second .now ≡ secondTable = start .pre .0 .two in
-    (
+    let e2 : start .args .second .now ≡ secondTable = start .pre .0 .two in (
       fraction-computed _ _ _ _ _ (rw e1 at (first .reduce .ensures)) (rw e2 at (second .reduce2 .ensures)),
       omega (arith, after-second second),
     )

@@ -4,18 +4,21 @@ use mathlib.Core.Path.{ap, _∙_, subst, sym}
 use Prim.Native.Nat.{ℕ}
 use native.Mathlib.Omega.{arith}
 use borrow.Author.Needs.{needs}
-use Rattle.logarithm.specs.Log2.{fractionOf, Enclosed}
+use Rattle.logarithm.specs.Log2.{zerosOf, fractionOf, Enclosed}
 use Rattle.logarithm.proofs.Log2.{normal, shift-fits, log2-computed, log2-enclosed}
 use Rattle.logarithm.proofs.log2_scaled.Statement.{statement}
 use Rattle.logarithm.proofs.log2_scaled.Tie as tie
 
 cast-zeros : tie.Need-cast-zeros
+unfolding zerosOf
 cast-zeros c = omega (arith, normal (c .args .x) (c .pre .1))
 
 sub-fraction : tie.Need-sub-fraction
+unfolding zerosOf
 sub-fraction c = omega (arith, normal (c .args .x) (c .pre .1))
 
 shl-fraction : tie.Need-shl-fraction
+unfolding zerosOf
 shl-fraction c = omega (arith, normal (c .args .x) (c .pre .1))
 
 fraction-requires : tie.Need-fraction-requires
@@ -24,6 +27,7 @@ fraction-requires c κs =
     (c .pre .0, rw (shift-fits (c .args .x) (c .pre .1)) (n .least, n .most))
 
 sub-result : tie.Need-sub-result
+unfolding zerosOf
 sub-result c = omega (arith, normal (c .before .args .x) (c .before .pre .1))
 
 mul-result : tie.Need-mul-result

@@ -15,12 +15,12 @@ use Rattle.logarithm.proofs.reduce.Tie as tie
 product-small : (m p : ℕ) → m < 2 * unit → m * (p % packing) ≤ (2 * unit - 1) * (packing - 1)
 product-small m p h = let k : p % packing ≤ packing - 1 = omega arith in omega (arith, mul-le-mul-left m k)
 
-taken-off : (m p d : ℕ) → packing ≤ d → (m * (p % packing) + (d - 1)) / d ≤ m
-taken-off m p d h =
+taken-off : (m p d e : ℕ) → packing ≤ d → e < d → (m * (p % packing) + e) / d ≤ m
+taken-off m p d e h l =
     let k : p % packing ≤ d = omega arith in
     let q : 0 < d = omega arith in
-    let e : m * (p % packing) + (d - 1) < (m + 1) * d = omega (arith, mul-le-mul-left m k) in
-    let l : (m * (p % packing) + (d - 1)) / d < m + 1 = div-lt-iff-lt-mul q .1 e in
+    let g : m * (p % packing) + e < (m + 1) * d = omega (arith, mul-le-mul-left m k) in
+    let r : (m * (p % packing) + e) / d < m + 1 = div-lt-iff-lt-mul q .1 g in
     omega arith
 
 sub-p : tie.Need-sub-p
@@ -55,7 +55,7 @@ div-t15 : tie.Need-div-t15
 div-t15 c = search needs
 
 sub-t16 : tie.Need-sub-t16
-sub-t16 c = taken-off (c .before .before .args .m) _ (c .before .before .args .d) (c .before .before .pre .3)
+sub-t16 c = taken-off (c .before .before .args .m) _ (c .before .before .args .d) _ (c .before .before .pre .3) (omega (arith, c .before .before .pre .3))
 
 returns : tie.Need-returns
 unfolding timesFactor
