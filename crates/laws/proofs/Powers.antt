@@ -1,8 +1,102 @@
--- Laws of powers over variable exponents. Assumes nothing.
-use mathlib.Core.Path.{_≡_}
-use Prim.Native.Nat.{ℕ, zero, suc, _*_, _^_}
-use native.Mathlib.Nat.{mul-assoc, mul-comm, mul-left-comm, mul-one, pow-zero, pow-suc}
+-- Laws of powers whose exponents are variables, so that a crate can use them at an exponent that no check may compute.
+-- Assumes nothing.
+use mathlib.Core.Path.{_≡_, refl, sym, ap, _∙_, subst, subst₂}
+use Prim.Native.Nat.{ℕ, zero, suc, _+_, _*_, _^_, _≤_, _<_}
+use native.Mathlib.Nat.{le-refl, lt-of-not-le, mul-assoc, mul-comm, mul-left-comm, mul-one, one-mul, mul-zero, zero-mul, add-zero, mul-suc, suc-mul, add-mul, mul-add, pow-zero, pow-suc, pow-lt-pow-left, pow-le-pow-left, mul-le-mul-left, mul-le-mul-right, le-of-mul-le-mul-left, le-of-mul-le-mul-right, one-le-pow}
+use native.Mathlib.Decide.{decLe}
+use native.Mathlib.Omega.{arith}
+use lib.Pow.{pow-add, pow-lt}
+
+-- Products multiplied out and sorted, so that omega reads what is left as a sum of unknowns: `simp ring (omega (arith, simp ring at h))`.
+pub ruleset ring = (mul-add, add-mul, mul-suc, suc-mul, mul-assoc, mul-comm, mul-left-comm)
+
+-- ---- equations
+
+pub pow-one : (x : ℕ) → x ^ 1 ≡ x
+pow-one x = pow-suc x 0 ∙ ap (λ (k : ℕ). k * x) (pow-zero x) ∙ one-mul x
+
+pub one-pow : (n : ℕ) → 1 ^ n ≡ 1
+one-pow zero = pow-zero 1
+one-pow (suc n) = simp (pow-suc, one-pow n)
 
 pub mul-pow : (a b n : ℕ) → (a * b) ^ n ≡ a ^ n * b ^ n
 mul-pow a b zero = simp (pow-zero, mul-one)
 mul-pow a b (suc n) = simp (pow-suc, mul-pow a b n, mul-assoc, mul-comm, mul-left-comm)
+
+pub pow-mul : (a m n : ℕ) → a ^ (m * n) ≡ (a ^ m) ^ n
+pow-mul a m zero = simp (mul-zero, pow-zero)
+pow-mul a m (suc n) = rw (mul-suc, pow-add, pow-mul a m n, pow-suc) refl
+
+pub pow-swap : (x m n : ℕ) → (x ^ m) ^ n ≡ (x ^ n) ^ m
+pow-swap x m n = sym (pow-mul x m n) ∙ ap (λ (k : ℕ). x ^ k) (mul-comm m n) ∙ pow-mul x n m
+
+-- the power of twice the exponent is a square
+pub pow-twice : (x n : ℕ) → x ^ (n * 2) ≡ x ^ n * x ^ n
+pow-twice x n = ap (λ (k : ℕ). x ^ k) (omega arith) ∙ pow-add x n n
+
+-- ---- orders
+
+-- an order of products is one of their powers
+pub raise : (a b c d n : ℕ) → a * b ≤ c * d → a ^ n * b ^ n ≤ c ^ n * d ^ n
+raise a b c d n h = rw (← mul-pow a b n, ← mul-pow c d n) (pow-le-pow-left h n)
+
+-- an order of powers is one of their bases
+pub root : {x y : ℕ} (n : ℕ) → 0 < n → x ^ n ≤ y ^ n → x ≤ y
+root {x} {y} n h p = go (decLe x y)
+  where
+    go : Dec (x ≤ y) → x ≤ y
+    go (yes l) = l
+    go (no l) =
+        let q : y ^ n < x ^ n = pow-lt-pow-left (lt-of-not-le l) (λ e. absurd (let z : 0 < 0 = subst (λ (k : ℕ). 0 < k) e h in omega arith)) in
+        absurd (omega arith)
+
+-- an order of powers of two is one of their exponents
+pub exponents-le : (a b : ℕ) → 2 ^ a ≤ 2 ^ b → a ≤ b
+exponents-le a b h = go (decLe a b)
+  where
+    go : Dec (a ≤ b) → a ≤ b
+    go (yes l) = l
+    go (no l) = let q : 2 ^ b < 2 ^ a = pow-lt (lt-of-not-le l) in absurd (omega arith)
+
+-- ---- powers of a sum against a straight line
+
+bernoulli-step : (A B c d n : ℕ) → A * (c + n * d) ≤ B * c → A ≤ B → A * c * (c + suc n * d) ≤ B * (c + d) * c
+bernoulli-step A B c d n h k =
+    simp ring (omega (arith, simp ring at (mul-le-mul-right c h), mul-le-mul-right (c * d) k))
+
+-- Bernoulli: (1 + d / c)^n is at least 1 + n * d / c
+pub bernoulli : (c d n : ℕ) → c ^ n * (c + n * d) ≤ (c + d) ^ n * c
+bernoulli c d zero = simp (pow-zero, zero-mul, add-zero) (le-refl _)
+bernoulli c d (suc n) =
+    simp pow-suc (bernoulli-step (c ^ n) ((c + d) ^ n) c d n (bernoulli c d n) (pow-le-pow-left (omega arith) n))
+
+steps-step : (A B M b n : ℕ) → b ≤ M → A * (b + 1) ≤ B * (b + 1 + n) → A * (M + 1) * b ≤ B * M * (b + suc n)
+steps-step A B M b n l h =
+    simp ring (omega (arith, simp ring at (mul-le-mul-right M h), mul-le-mul-left A l))
+
+-- n steps of one part in M, all at or below M: (1 + 1 / M)^n is at most 1 + n / b
+pub steps-at-most : (M b n : ℕ) → b + n ≤ M → (M + 1) ^ n * b ≤ M ^ n * (b + n)
+steps-at-most M b zero e = simp (pow-zero, add-zero) (le-refl _)
+steps-at-most M b (suc n) e =
+    let e' : b + 1 + n ≤ M = omega arith in
+    simp pow-suc (steps-step ((M + 1) ^ n) (M ^ n) M b n (omega arith) (steps-at-most M (b + 1) n e'))
+
+-- ---- the gap between two powers
+
+gap-step : (q c d n : ℕ) → 0 < c → c ≤ q * (n * d) → (q + 1) * c ^ n ≤ q * (c + d) ^ n
+gap-step q c d n p h = le-of-mul-le-mul-right {k = c} (algebra (c ^ n) ((c + d) ^ n) q c (n * d) (bernoulli c d n) h) p
+  where
+    algebra : (A B q c e : ℕ) → A * (c + e) ≤ B * c → c ≤ q * e → (q + 1) * A * c ≤ q * B * c
+    algebra A B q c e l h = simp ring (omega (arith, simp ring at (mul-le-mul-left q l), mul-le-mul-left A h))
+
+gap-cancel : (G X Y A B : ℕ) → 0 < X → G * X ≤ Y → Y * A ≤ X * B → G * A ≤ B
+gap-cancel G X Y A B p h l = le-of-mul-le-mul-left {k = X} (simp ring (omega (arith, simp ring at (mul-le-mul-right A h), l))) p
+
+-- d is so large a part of c, at least one of q * n, that the power n * m of c + d is 2^g times that of c. The premise about q is a
+-- certificate (proofs/Certificate.antt of the crate logarithm), or computed.
+pub gap :
+    (g q n m c d : ℕ) → 0 < q → 2 ^ g * q ^ m ≤ (q + 1) ^ m → 0 < c → c ≤ q * (n * d) → 2 ^ g * c ^ (n * m) ≤ (c + d) ^ (n * m)
+gap g q n m c d p f z h =
+    subst₂ (λ (x y : ℕ). 2 ^ g * x ≤ y) (sym (pow-mul c n m)) (sym (pow-mul (c + d) n m))
+    (gap-cancel (2 ^ g) (q ^ m) ((q + 1) ^ m) ((c ^ n) ^ m) (((c + d) ^ n) ^ m) (one-le-pow m q p) f
+    (subst₂ _≤_ (mul-pow (q + 1) (c ^ n) m) (mul-pow q ((c + d) ^ n) m) (pow-le-pow-left (gap-step q c d n z h) m)))

@@ -1,0 +1,107 @@
+-- The line: the logarithm of (P + d) / P, for d up to some room, lies at most a little above a multiple of d. Both sides come from one slope,
+-- that of the logarithm at the far end M = P + room: from P to P + d it rises by at least that slope, and from P + d to M too.
+-- Assumes nothing.
+use mathlib.Core.Path.{_≡_, refl, sym, ap, _∙_}
+use Prim.Native.Nat.{ℕ, _+_, _*_, _-_, _/_, _^_, _≤_, _<_}
+use native.Mathlib.Nat.{le-trans, le-of-eq, mul-assoc, mul-comm, mul-left-comm, mul-le-mul-right, le-of-mul-le-mul-left, one-le-pow, pow-le-pow-left}
+use native.Mathlib.Omega.{arith}
+use lib.Pow.{pow-add, pow-pos, pow-mono}
+use lib.Dec.{T, lit<}
+use Rattle.laws.proofs.Powers.{mul-pow, pow-mul, pow-swap, root, raise, steps-at-most}
+use Rattle.logarithm.specs.Scale.{scale, scale-is, unit}
+use Rattle.logarithm.specs.Log2.{slope, slopeDivisor, lineOf}
+use Rattle.logarithm.proofs.Certificate.{least, most, atLeast, atMost, least-power, most-power}
+use Rattle.logarithm.proofs.Level.{cancel-below, lineRoom}
+
+-- ---- over any numbers
+
+-- a bound of a factor's power F, taken n times
+taken-times : (g M N F n : ℕ) → 2 ^ g * M ^ F ≤ N ^ F → 2 ^ (g * n) * (M ^ n) ^ F ≤ (N ^ n) ^ F
+taken-times g M N F n h =
+    rw (pow-mul 2 g n, pow-swap M n F, pow-swap N n F, ← mul-pow (2 ^ g) (M ^ F) n) (pow-le-pow-left h n)
+
+-- n steps below M rise by at least n times the slope g at M
+rises-by-slope : (g M a n F : ℕ) → 0 < M → a + n ≤ M → 2 ^ g * M ^ F ≤ (M + 1) ^ F → 2 ^ (g * n) * a ^ F ≤ (a + n) ^ F
+rises-by-slope g M a n F q l c =
+    cancel-below ((a + n) ^ F) (a ^ F) ((M ^ n) ^ F) (((M + 1) ^ n) ^ F) (2 ^ (g * n)) (one-le-pow F (M ^ n) (one-le-pow n M q))
+    (raise a ((M + 1) ^ n) (a + n) (M ^ n) F (omega (arith, steps-at-most M a n l))) (taken-times g M (M + 1) F n c)
+
+-- back from the finer unit, F = E * R
+unfine : (t R E X : ℕ) → 2 ^ (t * R) * X ^ (E * R) ≡ (2 ^ t * X ^ E) ^ R
+unfine t R E X = rw (pow-mul 2 t R, pow-mul X E R, ← mul-pow (2 ^ t) (X ^ E) R) refl
+
+module _ (g M P d t E R F : ℕ) (pos : 0 < M) (some : 0 < R) (finer : F ≡ E * R) (slopes : 2 ^ g * M ^ F ≤ (M + 1) ^ F) where
+  line-below : P + d ≤ M → t * R ≤ g * d → 2 ^ t * P ^ E ≤ (P + d) ^ E
+  line-below l k =
+      root R some
+      (rw (← unfine t R E P, ← pow-mul (P + d) E R, ← finer)
+      (le-trans (mul-le-mul-right (P ^ F) (pow-mono k)) (rises-by-slope g M P d F pos l slopes)))
+
+  line-above : (n whole : ℕ) → P + d + n ≡ M → M ^ F ≤ 2 ^ whole * P ^ F → whole ≤ g * n + t * R → (P + d) ^ E ≤ 2 ^ t * P ^ E
+  line-above n whole e h k =
+      root R some
+      (rw (← unfine t R E P, ← pow-mul (P + d) E R, ← finer)
+      (le-of-mul-le-mul-left {k = 2 ^ (g * n)}
+      (le-trans (rises-by-slope g M (P + d) n F pos (le-of-eq e) slopes)
+      (le-trans (rw e h)
+      (le-trans (mul-le-mul-right (P ^ F) (pow-mono k))
+      (le-of-eq (ap (λ (x : ℕ). x * P ^ F) (pow-add 2 (g * n) (t * R)) ∙ mul-assoc (2 ^ (g * n)) (2 ^ (t * R)) (P ^ F))))))
+      (pow-pos (g * n))))
+
+-- ---- the code's line
+
+-- a finer unit, in which the slope is a whole number; shut, as `scale` is
+fine : ℕ
+fine = 2 ^ 76
+
+fine-is : fine ≡ 2 ^ 76
+unfolding fine
+fine-is = refl
+
+fine-split : fine ≡ scale * slopeDivisor
+unfolding fine
+fine-split = rw scale-is refl
+
+-- the far end, and the logarithm of (unit + lineRoom) / unit in the finer unit, rounded up (tools/log-tables --constants)
+abbrev top : ℕ
+top = 281479305102336
+
+abbrev whole : ℕ
+whole = 1676245526943305894
+
+slope-test : T (atLeast 76 0 (top + 1) top slope)
+unfolding atLeast least
+slope-test = tt
+
+whole-test : T (atMost 76 0 top unit whole)
+unfolding atMost most
+whole-test = tt
+
+slope-at-top : 2 ^ slope * top ^ fine ≤ (top + 1) ^ fine
+slope-at-top = least-power 76 0 (top + 1) top slope fine fine-is slope-test
+
+whole-rise : top ^ fine ≤ 2 ^ whole * unit ^ fine
+whole-rise = most-power 76 0 top unit whole fine (omega arith) fine-is whole-test
+
+-- how far the line may lie below the logarithm
+abbrev pub lineWidth : ℕ
+lineWidth = 13
+
+pub record OnLine (m t : ℕ) : Type 0 where
+  pub below : 2 ^ t * unit ^ scale ≤ m ^ scale
+  pub above : m ^ scale ≤ 2 ^ (t + lineWidth) * unit ^ scale
+
+line-over : (d : ℕ) → d < lineRoom → OnLine (unit + d) (d * slope / slopeDivisor)
+line-over d l =
+    record {
+      below = line-below slope top unit d (d * slope / slopeDivisor) scale slopeDivisor fine (omega arith) (omega arith) fine-split slope-at-top (omega arith) (omega arith);
+      above =
+          line-above slope top unit d (d * slope / slopeDivisor + lineWidth) scale slopeDivisor fine (omega arith) (omega arith) fine-split slope-at-top
+          (lineRoom - d) whole (omega arith) whole-rise (omega arith);
+    }
+
+pub line : (m : ℕ) → unit ≤ m → m < unit + lineRoom → OnLine m (lineOf m)
+unfolding lineOf
+line m l h =
+    let e : unit + (m - unit) ≡ m = omega arith in
+    rw e at (line-over (m - unit) (omega arith))

@@ -1,0 +1,3 @@
+pub mod Scale
+pub mod Tables
+pub mod Log2

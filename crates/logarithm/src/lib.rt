@@ -1,0 +1,122 @@
+// The logarithm to the base 2 of a whole number, enclosed by whole-number powers.
+//
+// For 1 <= x < 2^49, log2_scaled gives r with 2^r <= x^E and x^E <= 2^(r + 20), where E = 2^36: r / E is log2(x), rounded down
+// and too low by at most 20 / E. It never falls as x rises (proofs/Rise.antt).
+//
+// 1. x is shifted up to a mantissa m of 49 bits, UNIT <= m < 2 * UNIT; the shift is the whole part of the logarithm.
+// 2. First level: the place of m among 256 places, FIRST_SPACING apart, gives a factor (D - j) / D, D = FIRST_DIVISOR, and
+//    the logarithm of D / (D - j). m times the factor, rounded down, is at most FIRST_SPACING above UNIT.
+// 3. Second level: the same with 256 places of SECOND_SPACING and D = SECOND_DIVISOR. What is left is below UNIT + room,
+//    room = 4328391680.
+// 4. The rest d over UNIT counts d * SLOPE / SLOPE_DIVISOR: a straight line at or below the curve.
+//
+// The width 20: at most 6 from the first table (t is rounded down, and lowered by at most 5 so that nothing falls from one place to the
+// next), 1 from the second table, 13 from the line (12 where the line is farthest from the curve, 1 for rounding).
+// Rounding m down costs less than 1/1000 and is part of the 6 and the 1.
+//
+// The numbers: the tables are written by tools/log-tables, which explains each entry; the spacings are 2^40 and 2^32, so that 256 places
+// fill the mantissas of each level; the divisors are 2^16 and 2^23, the greatest whose j stays below PACKING and m * j below 2^64;
+// SLOPE is log2((M + 1) / M) * 2^76 rounded down, M = UNIT + room, the curve's slope at its far end, where it is least
+// (tools/log-tables --constants). Every divisor is a power of two, so no division is left in the machine code.
+mod tables;
+
+ghost use mathlib.Core.Path.{_≡_};
+ghost use Prim.Native.Nat.{_+_, _*_, _-_, _/_, _≤_, _<_};
+ghost use Rattle.logarithm.specs.Scale.{unit};
+ghost use Rattle.logarithm.specs.Tables.{firstTable, secondTable};
+ghost use Rattle.logarithm.specs.Log2.{Enclosed, InRange, Lent, Reduces, fractionOf, packing};
+use tables::FIRST;
+use tables::SECOND;
+
+// 2^48, which a mantissa counts as 1.
+const UNIT: u64 = 281474976710656;
+
+// E = 2^36, the units of a logarithm in 1.
+const SCALE: u64 = 68719476736;
+
+// An entry is t * PACKING + j.
+const PACKING: u64 = 32768;
+
+// The first level: places 2^40 apart, factors over 2^16.
+const FIRST_SPACING: u64 = 1099511627776;
+
+const FIRST_DIVISOR: u64 = 65536;
+
+// The second level: places 2^32 apart, factors over 2^23.
+const SECOND_SPACING: u64 = 4294967296;
+
+const SECOND_DIVISOR: u64 = 8388608;
+
+// The line: d over UNIT counts d * SLOPE / 2^40.
+const SLOPE: u64 = 387264545;
+
+const SLOPE_DIVISOR: u64 = 1099511627776;
+
+// The leading zeros of half a mantissa, a number of 48 bits, and of half of 1, which is 0.
+const MANTISSA_ZEROS: u64 = 16;
+
+const ONE_ZEROS: u64 = 64;
+
+// What a level leaves of a mantissa, and the logarithm of the factor that it took out.
+struct Reduced {
+    mantissa: u64,
+    log: u64,
+}
+
+// The logarithm in an entry. A parameter is known to fit its type, which a read through a lent array is not.
+fn log_in(entry: u64) -> u64
+    ensures { λ r. ⌜ (r ≡ entry / packing) × (r < 2 * unit) ⌝ }
+{
+    entry / PACKING
+}
+
+// One level: m times the factor over d that the table has for its place, rounded down. Places are s apart.
+fn reduce(table: &[u64; 256], m: u64, s: u64, d: u64) -> Reduced
+    requires { ⌜ (unit ≤ m) × (m < 2 * unit) × (0 < s) × (packing ≤ d) × (d ≤ unit) × ((m - unit) / s < 256) ⌝ }
+    ensures { λ r. ⌜ Reduces (now (table .entry)) s d m (r .mantissa) (r .log) ⌝ }
+{
+    let p = table[((m - UNIT) / s) as usize];
+    let log = log_in(p);
+    Reduced {
+        mantissa: m - (m * (p % PACKING) + (d - 1)) / d,
+        log,
+    }
+}
+
+// The logarithm of m / UNIT.
+fn fraction(first: &[u64; 256], second: &[u64; 256], m: u64) -> u64
+    requires lent { ⌜ Lent (now first) (now second) ⌝ }
+    requires { ⌜ (unit ≤ m) × (m < 2 * unit) ⌝ }
+    ensures { λ r. ⌜ (r ≡ fractionOf m) × (r < 16 * unit) ⌝ }
+{
+    let a = reduce(first, m, FIRST_SPACING, FIRST_DIVISOR);
+    let b = reduce(second, a.mantissa, SECOND_SPACING, SECOND_DIVISOR);
+    a.log + (b.log + (b.mantissa - UNIT) * SLOPE / SLOPE_DIVISOR)
+}
+
+// The tables, to be held as locals and lent to log2_scaled: what these two promise is what its `Lent` asks for, and `search needs` passes
+// it on. A constant array that is read at a place known only when the program runs is copied whole on each call that reads it, so a
+// caller copies once for many logarithms.
+pub fn first_table() -> [u64; 256]
+    ensures { λ r. ⌜ r ≡ firstTable ⌝ }
+{
+    FIRST
+}
+
+pub fn second_table() -> [u64; 256]
+    ensures { λ r. ⌜ r ≡ secondTable ⌝ }
+{
+    SECOND
+}
+
+// The scaled logarithm of x. It asks for what it needs because it is an inner layer, and no operation that a customer reaches.
+pub fn log2_scaled(first: &[u64; 256], second: &[u64; 256], x: u64) -> u64
+    requires lent { ⌜ Lent (now first) (now second) ⌝ }
+    requires range { ⌜ InRange x ⌝ }
+    ensures { λ r. ⌜ Enclosed x r ⌝ }
+{
+    // Of x / 2 and not of x: x86's instruction waits for the register that it writes, and the compiler clears that register first only where the
+    // number may be 0. Of x, known not to be 0, each logarithm would wait for the one before (docs/PERFORMANCE.md).
+    let zeros = u64::leading_zeros(x / 2) as u64;
+    fraction(first, second, x << (zeros - MANTISSA_ZEROS)) + (ONE_ZEROS - zeros) * SCALE
+}
