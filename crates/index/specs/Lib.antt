@@ -2,3 +2,5 @@ pub mod Questions
 pub mod ProcedureA
 pub mod ProcedureB
 pub mod Answer
+pub mod Lent
+pub mod Chosen

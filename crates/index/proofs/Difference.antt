@@ -1,0 +1,51 @@
+-- Differences of whole numbers, of either sign: what they are, when two are equal, and their order.
+-- Assumes nothing.
+use Prim.Native.Nat.{ℕ, zero, suc, _+_, _*_, _-_, _<_, _≤_}
+use mathlib.Core.Path.{_≡_, refl, sym, _∙_, ap}
+use lib.IntN.{ℤ, pos, negsuc, negℤ, subℕ, _-ℤ_, _*ℤ_}
+use lib.Signed.{_≤ℤ_}
+use lib.Dec.{le→leb}
+use native.Mathlib.Omega.{arith}
+use borrow.Author.Tests.{lt-ltb, le-ltb}
+use Rattle.laws.proofs.Order.{by-order}
+
+-- a − b where b is at most a, and where it is above
+pub sub-pos : (a b : ℕ) → b ≤ a → subℕ a b ≡ pos (a - b)
+sub-pos a b h = rw (le-ltb a b h)
+
+pub sub-neg : (a b : ℕ) → a < b → subℕ a b ≡ negsuc (b - suc a)
+sub-neg a b h = rw (lt-ltb a b h)
+
+-- a − b = c − d
+pub sub-same : (a b c d : ℕ) → a + d ≡ c + b → subℕ a b ≡ subℕ c d
+sub-same a b c d e =
+    by-order a b
+    (λ h. sub-neg a b h ∙ ap negsuc (omega arith) ∙ sym (sub-neg c d (omega arith)))
+    (λ h. sub-pos a b h ∙ ap pos (omega arith) ∙ sym (sub-pos c d (omega arith)))
+
+pub pos-less : (a b : ℕ) → pos a -ℤ pos b ≡ subℕ a b
+pos-less a zero = ap pos (omega arith) ∙ sym (sub-pos a 0 (omega arith))
+pos-less a (suc b) = refl
+
+-- a positive number of times a negative number
+pub times-neg : (k n : ℕ) → pos (suc k) *ℤ negsuc n ≡ negsuc (suc k * suc n - 1)
+times-neg k n = ap (λ (m : ℕ). negℤ (pos m)) whole
+  where
+    whole : suc k * suc n ≡ suc (suc k * suc n - 1)
+    whole = omega arith
+
+pub pos-le : (a b : ℕ) → a ≤ b → pos a ≤ℤ pos b
+pos-le a b h = record { le = le→leb a b h }
+
+pub neg-le : (a b : ℕ) → b ≤ a → negsuc a ≤ℤ negsuc b
+neg-le a b h = record { le = le→leb b a h }
+
+-- a − c is at most a − b where b is at most c
+pub sub-falls : (a b c : ℕ) → b ≤ c → subℕ a c ≤ℤ subℕ a b
+sub-falls a b c h =
+    by-order a b
+    (λ l. rw (sub-neg a b l, sub-neg a c (omega arith)) (neg-le (c - suc a) (b - suc a) (omega arith)))
+    (λ m. rw (sub-pos a b m)
+    (by-order a c
+    (λ l. rw (sub-neg a c l) (record { le = tt }))
+    (λ n. rw (sub-pos a c n) (pos-le (a - c) (a - b) (omega arith)))))

@@ -1,0 +1,5 @@
+pub mod Difference
+pub mod Floor
+pub mod ProcedureA
+pub mod Accepted
+pub mod Deciding

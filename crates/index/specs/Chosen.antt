@@ -1,0 +1,113 @@
+-- What this program chooses where document 01 leaves a choice ("Left free: which p and P, and, where the exact index is within 0.01 of a half,
+-- which of the true marks"): the definitions follow the code. What document 01 says of the choice stands in Answer.antt and is shown of
+-- every pair (proofs/Right.antt), so that nobody has to believe this file.
+-- Assumes nothing.
+use Prim.Native.Nat.{ℕ, zero, suc, _+_, _*_, _-_, _/_, _<_, _≤_}
+use mathlib.Core.Path.{_≡_}
+use mathlib.Core.Bool.{Bool, cond}
+use lib.Dec.{ltb, leb, eqb}
+use Rattle.reference.specs.Basis.{H-at}
+use Rattle.logarithm.specs.Scale.{scaleNumber, width}
+use Rattle.logarithm.specs.Log2.{log2Of}
+use Rattle.index.specs.declared.Mark.the-variants as mark
+use Rattle.index.specs.declared.Trial.{Trial}
+use Rattle.index.specs.declared.Trial.the-variants as trial
+use Rattle.index.specs.declared.Oil.{Oil}
+use Rattle.index.specs.declared.ByB.{ByB}
+use Rattle.index.specs.declared.Decided.{Decided}
+use Rattle.index.specs.declared.Decided.the-variants as decided
+use Rattle.index.specs.declared.Answer.{Answer}
+use Rattle.index.specs.declared.Answer.the-variants as answer
+use Rattle.index.specs.Questions.{refusal}
+use Rattle.index.specs.ProcedureA.{inUnits, indexA}
+use Rattle.index.specs.ProcedureB.{c}
+
+-- ---- the numbers that the code holds
+
+-- Q, where it is multiplied
+abbrev pub parts : ℕ
+parts = 16777216
+
+-- the logarithms to the base 2 of 10, 1000 and 10^7, in units of 1 / E and rounded down: each is at most 1 too low
+abbrev pub log10 : ℕ
+log10 = 228281160435
+
+abbrev pub log1000 : ℕ
+log1000 = 684843481305
+
+abbrev pub log10000000 : ℕ
+log10000000 = 1597968123046
+
+-- ---- the two numerators, from the logarithms of y, U and H
+
+-- p: N rounded down, with every logarithm on the side that makes it smaller
+unfoldable pub lowerFrom : ℕ → ℕ → ℕ → ℕ
+lowerFrom ly lU lH = parts * (lH - (lU + width)) / (ly + width - log1000)
+
+-- P: the first after p that is not below N, with every logarithm on the side that makes N greater; p + 2 never is
+unfoldable pub upperFrom : ℕ → ℕ → ℕ → ℕ → ℕ
+upperFrom ly lU lH p = cond (leb (parts * (lH + width - lU)) ((p + 1) * (ly - (log1000 + 1)))) (p + 1) (p + 2)
+
+-- ---- the index
+
+-- do the logarithms show that p shows "at least r", and P "at most r"?
+unfoldable pub showsLeast : ℕ → ℕ → Bool
+showsLeast p r = leb ((log2Of (c r) + width) * parts) (log10 * p + log10000000 * parts)
+
+unfoldable pub showsMost : ℕ → ℕ → Bool
+showsMost P r = leb ((log10 + 1) * P + (log10000000 + 1) * parts) (log2Of (c r) * parts)
+
+-- halving, f times, of the whole numbers from lo, at least 100·lo − 50 of which is shown, to below hi, at least 100·hi − 50 of which is not
+unfoldable pub searchOf : ℕ → ℕ → ℕ → ℕ → ℕ
+searchOf zero p lo hi = lo
+searchOf (suc f) p lo hi = cond (showsLeast p (100 * ((lo + hi) / 2) - 50)) (searchOf f p ((lo + hi) / 2) hi) (searchOf f p lo ((lo + hi) / 2))
+
+-- the k of which at least 100·k − 50 is shown and at least 100·k + 50 is not
+unfoldable pub wholeOf : ℕ → ℕ
+wholeOf p = searchOf 14 p 100 10000
+
+-- settled k where at most 100·k + 50 is shown too; otherwise near k + 1
+unfoldable pub markedOf : ℕ → ℕ → ℕ → ByB
+markedOf k p P =
+    cond (showsMost P (100 * k + 50))
+    (record { index = k; mark = mark.Settled; lower = p; upper = P })
+    (record { index = k + 1; mark = mark.Near; lower = p; upper = P })
+
+-- what the code finds when it tries k
+unfoldable pub trialOf : ℕ → ℕ → ℕ → Trial
+trialOf k p P =
+    cond (showsLeast p (100 * k + 50)) trial.Higher
+    (cond (showsLeast p (100 * k - 50)) (cond (showsMost P (100 * k + 50)) trial.Settled trial.Near)
+    trial.Lower)
+
+unfoldable pub lowerOfPair : ℕ → ℕ → ℕ
+lowerOfPair u y = lowerFrom (log2Of y) (log2Of (inUnits u)) (log2Of (H-at y))
+
+unfoldable pub upperOfPair : ℕ → ℕ → ℕ
+upperOfPair u y = upperFrom (log2Of y) (log2Of (inUnits u)) (log2Of (H-at y)) (lowerOfPair u y)
+
+unfoldable pub byB : ℕ → ℕ → ByB
+byB u y = markedOf (wholeOf (lowerOfPair u y)) (lowerOfPair u y) (upperOfPair u y)
+
+-- ---- the answer
+
+-- an oil below H: its pair passes the questions, h is H, and U is below it
+pub record BelowH (oil : Oil) : Type 0 where
+  pub accepted : refusal (oil .u) (oil .y) ≡ 0
+  pub h-is : oil .h ≡ H-at (oil .y)
+  pub below : inUnits (oil .u) < oil .h
+
+-- a pair before procedure B: refused, answered by procedure A, or an oil below H
+unfoldable pub decidedOf : ℕ → ℕ → Decided
+decidedOf u y =
+    cond (eqb (refusal u y) 0)
+    (cond (ltb (inUnits u) (H-at y)) (decided.BelowH (record { u = u; y = y; h = H-at y })) (decided.A (indexA u y)))
+    (decided.Refused (refusal u y))
+
+unfoldable pub finishedOf : Decided → Answer
+finishedOf (decided.Refused number) = answer.Refused number
+finishedOf (decided.A index) = answer.A index
+finishedOf (decided.BelowH oil) = answer.B (byB (oil .u) (oil .y))
+
+unfoldable pub answerOf : ℕ → ℕ → Answer
+answerOf u y = finishedOf (decidedOf u y)
