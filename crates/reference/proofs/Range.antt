@@ -1,5 +1,6 @@
--- H^6 ≤ 10^9·y^17 at every viscosity: it bounds every index, since with u above y it gives (H/U)^6 ≤ Y^11. One test that the checker
--- computes over the rows (H at the next row against the viscosity of this one), and an easy bound for the quadratic.
+-- How far H can be above y. H^6 ≤ 10^9·y^17 at every viscosity: it bounds every index, since with u above y it gives (H/U)^6 ≤ Y^11. And
+-- H ≤ 128·y. Each by one test that the checker computes over the rows (H at the next row against the viscosity of this one), and an
+-- easy bound for the quadratic.
 -- Assumes nothing.
 use Prim.Native.Nat.{ℕ, suc, _+_, _*_, _-_, _^_, _<_, _≤_}
 use mathlib.Core.Path.{_≡_, refl, sym, _∙_, ap}
@@ -45,15 +46,18 @@ by-row : (i y h : ℕ) → i < 310 → viscosityOf i ≤ y → h ≤ rowH (i + 1
 by-row i y h l b m =
     le-trans (pow-le-pow-left m 6) (le-trans (row-within i l) (mul-le-mul-left 1000000000 (pow-le-pow-left b 17)))
 
+-- at the last row
+last-row : (y : ℕ) (p : Place) → Stands y p → 310 ≤ p .row → (70000 ≤ y) × (atPlace rowH p ≡ rowH 310 * 10000000)
+last-row y p s b =
+    let r : p .row ≡ 310 = omega (arith, s .row) in
+    let z : p .share ≡ 0 = ⊎-elim (λ (z : p .share ≡ 0). z) (λ (n : 0 < p .share). absurd (omega (arith, s .next (λ e. omega arith)))) (eq-zero-or-pos (p .share)) in
+    (rw r at (s .below), at-line rowH p ∙ rw (r, z) (omega arith))
+
 at-rows : (y : ℕ) (p : Place) → Stands y p → atPlace rowH p ^ 6 ≤ 1000000000 * y ^ 17
 at-rows y p s =
     by-order (p .row) 310
     (λ a. by-row (p .row) y (atPlace rowH p) a (s .below) (below-next y p s a))
-    (λ b. let r : p .row ≡ 310 = omega (arith, s .row) in
-    let z : p .share ≡ 0 = ⊎-elim (λ (z : p .share ≡ 0). z) (λ (n : 0 < p .share). absurd (omega (arith, s .next (λ e. omega arith)))) (eq-zero-or-pos (p .share)) in
-    let v : 70000 ≤ y = rw r at (s .below) in
-    let e : atPlace rowH p ≡ rowH 310 * 10000000 = at-line rowH p ∙ rw (r, z) (omega arith) in
-    by-row 309 y (atPlace rowH p) (lit< tt) (omega arith) (le-of-eq e))
+    (λ b. let l = last-row y p s b in by-row 309 y (atPlace rowH p) (lit< tt) (omega (arith, l .0)) (le-of-eq (l .1)))
 
 above-70 : (y : ℕ) → 70000 < y → quadraticH y ^ 6 ≤ 1000000000 * y ^ 17
 above-70 y low =
@@ -70,3 +74,29 @@ range y low high =
     by-order 70000 y
     (λ a. rw (lt-leb y 70000 a) (above-70 y a))
     (λ b. rw (le-leb y 70000 b) (at-rows y (placeOf y) (stands y low b)))
+
+-- ---- H is at most 128 times y, so that with u above y the logarithm of H/U is below 7
+
+close : ℕ → Bool
+close i = leb (rowH (i + 1)) (128 * viscosityOf i)
+
+rows-close : T (upTo close 310)
+unfolding close entry table1
+rows-close = tt
+
+row-close : (i : ℕ) → i < 310 → rowH (i + 1) ≤ 128 * viscosityOf i
+unfolding close
+row-close i h = leb→le _ _ (below close 310 rows-close i h)
+
+ratio-at-rows : (y : ℕ) (p : Place) → Stands y p → atPlace rowH p ≤ 1280000000 * y
+ratio-at-rows y p s =
+    by-order (p .row) 310
+    (λ a. omega (arith, below-next y p s a, row-close (p .row) a, s .below))
+    (λ b. omega (arith, last-row y p s b, row-close 309 (lit< tt)))
+
+pub ratio : (y : ℕ) → least100 ≤ y → y ≤ greatest100 → H-at y ≤ 1280000000 * y
+unfolding H-at
+ratio y low high =
+    by-order 70000 y
+    (λ a. let square : y * y ≤ 500000 * y = mul-le-mul-right y high in rw (lt-leb y 70000 a) (omega arith))
+    (λ b. rw (le-leb y 70000 b) (ratio-at-rows y (placeOf y) (stands y low b)))

@@ -1,0 +1,28 @@
+-- The logarithms that the code holds as constants, certified: each is at most 1 below the logarithm in units of 1 / E.
+-- Assumes nothing.
+use Prim.Native.Nat.{ℕ, _+_, _^_, _≤_}
+use mathlib.Core.Path.{_≡_}
+use lib.Dec.{T}
+use Rattle.logarithm.specs.Scale.{scale, scale-is}
+use Rattle.logarithm.proofs.Certificate.{least, most, atLeast, atMost, whole-least, whole-most}
+use Rattle.index.specs.Chosen.{log10, log1000, log10000000}
+
+pub record Certified (x l : ℕ) : Type 0 where
+  pub below : 2 ^ l ≤ x ^ scale
+  pub above : x ^ scale ≤ 2 ^ (l + 1)
+
+-- x, the whole part s of its logarithm, and the scaled logarithm l
+certified : (s x l : ℕ) → T (atLeast 36 s x 1 l) → T (atMost 36 s x 1 (l + 1)) → Certified x l
+certified s x l a b = record { below = whole-least 36 s x l scale scale-is a; above = whole-most 36 s x (l + 1) scale scale-is b }
+
+pub ten : Certified 10 log10
+unfolding atLeast atMost least most
+ten = certified 3 10 log10 tt tt
+
+pub thousand : Certified 1000 log1000
+unfolding atLeast atMost least most
+thousand = certified 9 1000 log1000 tt tt
+
+pub ten-million : Certified 10000000 log10000000
+unfolding atLeast atMost least most
+ten-million = certified 23 10000000 log10000000 tt tt

@@ -1,0 +1,110 @@
+-- The two numerators from the logarithms of y, U and H: p / Q is at or below N and P / Q at or above it, shown by whole powers; P is p + 1 or
+-- p + 2, and p is at most 11/6 of Q.
+-- Assumes nothing.
+use Prim.Native.Nat.{ℕ, _+_, _*_, _-_, _/_, _^_, _≤_, _<_}
+use mathlib.Core.Path.{_≡_, sym, _∙_, ap, subst}
+use mathlib.Core.Bool.{Bool, true, false, cond}
+use native.Mathlib.Omega.{arith}
+use native.Mathlib.Nat.{le-trans, le-of-eq, mul-assoc, mul-comm, mul-left-comm, mul-add, add-mul, mul-le-mul, mul-le-mul-left, mul-le-mul-right, le-of-mul-le-mul-right, div-mul-le-self, lt-div-mul-add, zero-div, pow-zero, pow-le-pow-left}
+use lib.Dec.{leb}
+use borrow.Author.Tests.{le-leb, lt-leb}
+use Rattle.laws.proofs.Order.{by-order}
+use Rattle.laws.proofs.Powers.{ring}
+use Rattle.logarithm.specs.Scale.{scale, scale-is, scaleNumber, width, bound}
+use Rattle.logarithm.specs.Log2.{Enclosed}
+use Rattle.logarithm.proofs.FromLogarithms.{powers-le}
+use Rattle.index.specs.ProcedureB.{Q, Q-is}
+use Rattle.index.specs.Chosen.{parts, log1000, lowerFrom, upperFrom}
+use Rattle.index.proofs.Constants.{thousand}
+
+-- what is known of the logarithms of an oil below H
+pub record Logarithms (y U H ly lU lH : ℕ) : Type 0 where
+  pub y-is : Enclosed y ly
+  pub U-is : Enclosed U lU
+  pub H-is : Enclosed H lH
+  pub below : U ≤ H
+  pub order : lU ≤ lH
+  -- Y is at least 2
+  pub least : log1000 + scaleNumber ≤ ly + width
+  -- H/U is at most 128
+  pub close : lH ≤ lU + width + 7 * scaleNumber
+  -- (H/U)^6 is at most Y^11
+  pub range : 6 * lH + 11 * log1000 ≤ 6 * (lU + width) + 11 * (ly + width)
+
+-- ---- with the logarithms as plain numbers
+
+few-algebra : (K p w D : ℕ) → 0 < w → p * w ≤ K * D → 6 * D ≤ 11 * w → 6 * p ≤ 11 * K
+few-algebra K p w D z h l =
+    le-of-mul-le-mul-right {k = w} (simp ring (omega (arith, h, simp ring at (mul-le-mul-left K l)))) z
+
+-- K·D' ≤ (p + 2)·e, where K·D < (p + 1)·(e + s), D' ≤ D + g and what the two sides differ by is at most e
+upper-algebra : (K p e s D D′ g : ℕ) → D′ ≤ D + g → K * D < p * (e + s) + (e + s) → p * s + s + K * g ≤ e → K * D′ ≤ (p + 2) * e
+upper-algebra K p e s D D′ g d l w = simp ring (omega (arith, simp ring at (mul-le-mul-left K d), simp ring at l, w))
+
+lower-sum : (p v ly lU lH : ℕ) → p * v ≤ parts * (lH - (lU + width)) → lU + width ≤ lH → ly + width ≡ v + log1000
+    → (ly + width) * p + (lU + width) * parts ≤ log1000 * p + lH * parts
+lower-sum p v ly lU lH h l e =
+    let q : (ly + width) * p ≡ (v + log1000) * p = ap (λ (k : ℕ). k * p) e in
+    simp ring (omega (arith, simp ring at q, h))
+
+upper-sum : (P v ly lU lH : ℕ) → parts * (lH + width - lU) ≤ P * v → lU ≤ lH → ly ≡ v + (log1000 + 1)
+    → (log1000 + 1) * P + (lH + width) * parts ≤ ly * P + lU * parts
+upper-sum P v ly lU lH h o e =
+    let q : ly * P ≡ (v + (log1000 + 1)) * P = ap (λ (k : ℕ). k * P) e in
+    simp ring (omega (arith, simp ring at q, h))
+
+module _ (y U H ly lU lH : ℕ) (o : Logarithms y U H ly lU lH) where
+  floor : lowerFrom ly lU lH * (ly + width - log1000) ≤ parts * (lH - (lU + width))
+  unfolding lowerFrom
+  floor = div-mul-le-self _ _
+
+  not-floor : parts * (lH - (lU + width)) < lowerFrom ly lU lH * (ly + width - log1000) + (ly + width - log1000)
+  unfolding lowerFrom
+  not-floor = lt-div-mul-add (omega (arith, o .least))
+
+  pub few : lowerFrom ly lU lH ≤ 30758229
+  few =
+      let r : 6 * lowerFrom ly lU lH ≤ 11 * parts =
+          few-algebra parts (lowerFrom ly lU lH) (ly + width - log1000) (lH - (lU + width)) (omega (arith, o .least)) floor (omega (arith, o .range, o .least)) in
+      omega arith
+
+  none : lH < lU + width → lowerFrom ly lU lH ≡ 0
+  unfolding lowerFrom
+  none l = let e : lH - (lU + width) ≡ 0 = omega arith in rw e (zero-div _)
+
+  pub lower-shows : y ^ lowerFrom ly lU lH * U ^ Q ≤ 1000 ^ lowerFrom ly lU lH * H ^ Q
+  lower-shows =
+      by-order lH (lU + width)
+      (λ l. rw (none l, pow-zero y, pow-zero 1000) (mul-le-mul-left 1 (pow-le-pow-left (o .below) Q)))
+      (λ l. let s = lower-sum (lowerFrom ly lU lH) (ly + width - log1000) ly lU lH floor l (omega (arith, o .least)) in
+      powers-le scale (lowerFrom ly lU lH) Q y U 1000 H (ly + width) (lU + width) log1000 lH (omega (arith, scale-is))
+      (o .y-is .above) (o .U-is .above) (thousand .below) (o .H-is .below) (rw Q-is s))
+
+  enough : parts * (lH + width - lU) ≤ (lowerFrom ly lU lH + 2) * (ly - (log1000 + 1))
+  enough =
+      let e : ly + width - log1000 ≡ ly - (log1000 + 1) + (width + 1) = omega (arith, o .least) in
+      upper-algebra parts (lowerFrom ly lU lH) (ly - (log1000 + 1)) (width + 1) (lH - (lU + width)) (lH + width - lU) (2 * width)
+      (omega arith)
+      (subst (λ (w : ℕ). parts * (lH - (lU + width)) < lowerFrom ly lU lH * w + w) e not-floor)
+      (omega (arith, few, o .least))
+
+  -- P is p + 1 or p + 2, and P·e reaches what N times log Y is at most
+  pub record Upper (P : ℕ) : Type 0 where
+    pub more : lowerFrom ly lU lH < P
+    pub most : P ≤ lowerFrom ly lU lH + 2
+    pub reaches : parts * (lH + width - lU) ≤ P * (ly - (log1000 + 1))
+
+  pub upper : Upper (upperFrom ly lU lH (lowerFrom ly lU lH))
+  unfolding upperFrom
+  upper =
+      by-order ((lowerFrom ly lU lH + 1) * (ly - (log1000 + 1))) (parts * (lH + width - lU))
+      (λ a. subst (λ (t : Bool). Upper (cond t (lowerFrom ly lU lH + 1) (lowerFrom ly lU lH + 2))) (sym (lt-leb _ _ a))
+      (record { more = omega arith; most = omega arith; reaches = enough }))
+      (λ b. subst (λ (t : Bool). Upper (cond t (lowerFrom ly lU lH + 1) (lowerFrom ly lU lH + 2))) (sym (le-leb _ _ b))
+      (record { more = omega arith; most = omega arith; reaches = b }))
+
+  pub upper-shows : (P : ℕ) → Upper P → 1000 ^ P * H ^ Q ≤ y ^ P * U ^ Q
+  upper-shows P v =
+      let s = upper-sum P (ly - (log1000 + 1)) ly lU lH (v .reaches) (o .order) (omega (arith, o .least)) in
+      powers-le scale P Q 1000 H y U (log1000 + 1) (lH + width) ly lU (omega (arith, scale-is))
+      (thousand .above) (o .H-is .above) (o .y-is .below) (o .U-is .below) (rw Q-is s)
