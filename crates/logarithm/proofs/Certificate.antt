@@ -8,7 +8,7 @@
 use mathlib.Core.Path.{_≡_, sym, ap, _∙_, subst}
 use mathlib.Core.Bool.{Bool, true, false, _&&_}
 use Prim.Native.Nat.{ℕ, zero, suc, _+_, _*_, _/_, _^_, _≤_, _<_}
-use native.Mathlib.Nat.{le-trans, le-of-eq, mul-assoc, mul-comm, mul-left-comm, mul-one, one-mul, mul-suc, suc-mul, add-mul, mul-add, pow-suc, mul-le-mul, mul-le-mul-right, le-of-mul-le-mul-right, div-mul-le-self, lt-div-mul-add, mul-pos}
+use native.Mathlib.Nat.{le-trans, le-of-eq, mul-assoc, mul-comm, mul-left-comm, mul-one, one-mul, add-mul, pow-suc, mul-le-mul, mul-le-mul-right, le-of-mul-le-mul-right, div-mul-le-self, lt-div-mul-add, mul-pos}
 use native.Mathlib.Omega.{arith}
 use lib.Dec.{T, ltb, leb, leb→le, ltb→lt, lit<}
 use lib.Pow.{pow-add, pow-pos, pow-mono}

@@ -2,11 +2,12 @@
 -- An upper logarithm of x is an A with x^S ≤ 2^A, a lower one is an a with 2^a ≤ x^S; take 1 and 0 where a factor is missing.
 use mathlib.Core.Path.{_≡_, sym, ap, ap₂, _∙_, subst₂}
 use Prim.Native.Nat.{ℕ, _+_, _*_, _-_, _^_, _≤_, _<_}
-use native.Mathlib.Nat.{le-trans, le-of-eq, lt-of-not-le, mul-assoc, mul-comm, mul-left-comm, mul-add, add-mul, mul-suc, suc-mul, one-le-pow, pow-le-pow-left, pow-lt-pow-left, mul-le-mul, mul-le-mul-left, mul-lt-mul-of-pos-left, lt-of-mul-lt-mul-right, mul-pos}
+use native.Mathlib.Nat.{le-trans, le-of-eq, one-le-pow, pow-le-pow-left, pow-lt-pow-left, mul-le-mul, mul-le-mul-left, mul-lt-mul-of-pos-left, lt-of-mul-lt-mul-right, mul-pos}
 use native.Mathlib.Omega.{arith}
 use lib.Pow.{pow-add, pow-mono}
 use Rattle.laws.proofs.Order.{by-order}
 use Rattle.laws.proofs.Powers.{ring, mul-pow, pow-mul, pow-swap, one-pow, root, exponents-le}
+use Rattle.logarithm.specs.Scale.{scale, scale-is}
 
 raised : (x y p q S : ℕ) → (x ^ p * y ^ q) ^ S ≡ (x ^ S) ^ p * (y ^ S) ^ q
 raised x y p q S = mul-pow (x ^ p) (y ^ q) S ∙ ap₂ _*_ (pow-swap x p S) (pow-swap y q S)
@@ -40,6 +41,10 @@ logs-le S p q x y z w a b C D hx hy hz hw h =
     (le-trans (le-of-eq (raised z w p q S))
     (le-trans (mul-le-mul (pow-le-pow-left hz p) (pow-le-pow-left hw q)) (le-of-eq (twos C D p q))))))))
 
+-- the scale that `log2Of` has
+pub scale-positive : 0 < scale
+scale-positive = rw scale-is (omega arith)
+
 -- the logarithm of a missing factor
 pub one-above : (S : ℕ) → 1 ^ S ≤ 2 ^ 0
 one-above S = le-of-eq (one-pow S)
@@ -51,9 +56,9 @@ one-below S = le-of-eq (sym (one-pow S))
 pub logs-in-order : (S x y a B : ℕ) → x ≤ y → 2 ^ a ≤ x ^ S → y ^ S ≤ 2 ^ B → a ≤ B
 logs-in-order S x y a B h hx hy = exponents-le a B (le-trans hx (le-trans (pow-le-pow-left h S) hy))
 
--- The order of exponents from orders of powers: the base y / x is at least 1 and v is greater than u. If (y / x)^p * v^q ≤ h^q and
--- h^q ≤ (y / x)^P * u^q then p < P.
--- With every power a variable: A = y^P, B = x^P, a = y^s, b = x^s, where P + s = p.
+-- The order of exponents from orders of powers, used for the order of two answers: the base y / x is at least 1, and v is greater than u. If
+-- (y / x)^p * v^q ≤ h^q and h^q ≤ (y / x)^P * u^q then p < P. In the algebra every power is a variable: A = y^P, B = x^P, a = y^s,
+-- b = x^s, where P + s = p.
 exponents-algebra : (A B a b u v h : ℕ) → 0 < b * A → A * a * v ≤ B * b * h → B * h ≤ A * u → u < v → a < b
 exponents-algebra A B a b u v h z i j k =
     lt-of-mul-lt-mul-right (A * v)

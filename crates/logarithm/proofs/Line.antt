@@ -1,12 +1,12 @@
 -- The line: the logarithm of (P + d) / P, for d up to some room, lies at most a little above a multiple of d. Both sides come from one slope,
 -- that of the logarithm at the far end M = P + room: from P to P + d it rises by at least that slope, and from P + d to M too.
 -- Assumes nothing.
-use mathlib.Core.Path.{_≡_, refl, sym, ap, _∙_}
+use mathlib.Core.Path.{_≡_, refl, ap, _∙_}
 use Prim.Native.Nat.{ℕ, _+_, _*_, _-_, _/_, _^_, _≤_, _<_}
-use native.Mathlib.Nat.{le-trans, le-of-eq, mul-assoc, mul-comm, mul-left-comm, mul-le-mul-right, le-of-mul-le-mul-left, one-le-pow, pow-le-pow-left}
+use native.Mathlib.Nat.{le-trans, le-of-eq, mul-assoc, mul-le-mul-right, le-of-mul-le-mul-left, one-le-pow, pow-le-pow-left}
 use native.Mathlib.Omega.{arith}
 use lib.Pow.{pow-add, pow-pos, pow-mono}
-use lib.Dec.{T, lit<}
+use lib.Dec.{T}
 use Rattle.laws.proofs.Powers.{mul-pow, pow-mul, pow-swap, root, raise, steps-at-most}
 use Rattle.logarithm.specs.Scale.{scale, scale-is, unit}
 use Rattle.logarithm.specs.Log2.{slope, slopeDivisor, lineOf}
@@ -62,26 +62,26 @@ fine-split : fine ≡ scale * slopeDivisor
 unfolding fine
 fine-split = rw scale-is refl
 
--- the far end, and the logarithm of (unit + lineRoom) / unit in the finer unit, rounded up (tools/log-tables --constants)
+-- the far end, and the logarithm of top / unit in the finer unit, rounded up (tools/log-tables --constants)
 abbrev top : ℕ
-top = 281479305102336
+top = unit + lineRoom
 
-abbrev whole : ℕ
-whole = 1676245526943305894
+abbrev topLog : ℕ
+topLog = 1676245526943305894
 
 slope-test : T (atLeast 76 0 (top + 1) top slope)
 unfolding atLeast least
 slope-test = tt
 
-whole-test : T (atMost 76 0 top unit whole)
+top-test : T (atMost 76 0 top unit topLog)
 unfolding atMost most
-whole-test = tt
+top-test = tt
 
 slope-at-top : 2 ^ slope * top ^ fine ≤ (top + 1) ^ fine
 slope-at-top = least-power 76 0 (top + 1) top slope fine fine-is slope-test
 
-whole-rise : top ^ fine ≤ 2 ^ whole * unit ^ fine
-whole-rise = most-power 76 0 top unit whole fine (omega arith) fine-is whole-test
+rise-to-top : top ^ fine ≤ 2 ^ topLog * unit ^ fine
+rise-to-top = most-power 76 0 top unit topLog fine (omega arith) fine-is top-test
 
 -- how far the line may lie below the logarithm
 abbrev pub lineWidth : ℕ
@@ -97,7 +97,7 @@ line-over d l =
       below = line-below slope top unit d (d * slope / slopeDivisor) scale slopeDivisor fine (omega arith) (omega arith) fine-split slope-at-top (omega arith) (omega arith);
       above =
           line-above slope top unit d (d * slope / slopeDivisor + lineWidth) scale slopeDivisor fine (omega arith) (omega arith) fine-split slope-at-top
-          (lineRoom - d) whole (omega arith) whole-rise (omega arith);
+          (lineRoom - d) topLog (omega arith) rise-to-top (omega arith);
     }
 
 pub line : (m : ℕ) → unit ≤ m → m < unit + lineRoom → OnLine m (lineOf m)

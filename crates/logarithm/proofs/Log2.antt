@@ -1,19 +1,20 @@
--- What holds of `log2Of`: it encloses the logarithm. And what the proofs of the code cite. Assumes nothing.
+-- `log2Of` encloses the logarithm: `log2-enclosed`. Then what the proofs of the code cite, and how to compute the logarithm of a literal.
+-- Assumes nothing.
 use mathlib.Core.Path.{_≡_, refl, sym, ap, _∙_, subst}
 use mathlib.Core.List.{List}
 use Prim.Native.Nat.{ℕ, zero, suc, _+_, _*_, _-_, _/_, _%_, _^_, _≤_, _<_}
-use native.Mathlib.Nat.{le-trans, le-of-eq, lt-of-le-of-lt, lt-of-not-le, mul-assoc, mul-le-mul-left, mul-le-mul-right, le-of-mul-le-mul-right, mul-lt-mul-of-pos-right, add-mul, mod-eq-of-lt, pow-suc, pow-lt-pow-left}
+use native.Mathlib.Nat.{mul-assoc, mul-le-mul-left, mul-le-mul-right, le-of-mul-le-mul-right, mul-lt-mul-of-pos-right, add-mul, mod-eq-of-lt, pow-suc, pow-lt-pow-left}
 use native.Mathlib.Omega.{arith}
 use lib.Pow.{pow-add, pow-pos, pow-mono}
 use lib.Count.{leadingZeros, leading-length}
 use lib.ListN.{getD}
 use Rattle.laws.proofs.Order.{by-order}
-use Rattle.laws.proofs.Powers.{mul-pow, pow-mul, exponents-le}
+use Rattle.laws.proofs.Powers.{mul-pow, pow-mul}
 use Rattle.logarithm.specs.Scale.{scale, scale-is, scaleNumber, width, unit, bound}
 use Rattle.logarithm.specs.Tables.{firstTable, secondTable}
 use Rattle.logarithm.specs.Log2.{packing, firstSpacing, firstDivisor, secondSpacing, secondDivisor, slope, slopeDivisor, zerosOf, mantissa, entryOf, timesFactor, taken, left, lineOf, restOf, fractionOf, log2Of, Enclosed, InRange, Reduces}
 use Rattle.logarithm.proofs.Level.{Certified, Step, level, firstWidth, secondWidth, lineRoom, first-certified, second-certified}
-use Rattle.logarithm.proofs.Line.{OnLine, line, lineWidth}
+use Rattle.logarithm.proofs.Line.{line, lineWidth}
 
 -- ---- the mantissa: two levels and the line
 
@@ -174,10 +175,16 @@ pub fraction-computed :
 unfolding fractionOf restOf lineOf
 fraction-computed m a b k l r s = rw (r .log, s .log, s .mantissa, r .mantissa)
 
-pub shift-fits : (x : ℕ) → InRange x → (x * 2 ^ (leadingZeros 64 (x / 2) - 16)) % 18446744073709551616 ≡ mantissa x
+pub shift-fits : (x : ℕ) → InRange x → (x * 2 ^ (leadingZeros 64 (x / 2) - 16)) % 2 ^ 64 ≡ mantissa x
 unfolding mantissa zerosOf
 shift-fits x r = let n = normal x r in mod-eq-of-lt (omega (arith, n .most))
 
 pub log2-computed : (x f : ℕ) → f ≡ fractionOf (mantissa x) → f + (64 - leadingZeros 64 (x / 2)) * scaleNumber ≡ log2Of x
 unfolding log2Of zerosOf
 log2-computed x f e = ap (λ (y : ℕ). y + (64 - leadingZeros 64 (x / 2)) * scaleNumber) e
+
+-- ---- an example: the logarithm of a literal is computed
+
+log2-of-thousand : log2Of 1000 ≡ 684843481305
+unfolding log2Of fractionOf restOf lineOf left taken entryOf timesFactor mantissa zerosOf leadingZeros firstTable secondTable
+log2-of-thousand = refl

@@ -1,21 +1,21 @@
 -- The logarithm never falls as its argument rises: within a place each level and the line rise, and one computed test for each level compares
 -- the last mantissa of a place with the first of the next. Assumes nothing.
-use mathlib.Core.Path.{_≡_, refl, sym, ap, _∙_, subst, subst₂}
+use mathlib.Core.Path.{_≡_, refl, sym, ap, _∙_, subst}
 use mathlib.Core.Bool.{Bool}
 use mathlib.Core.List.{List}
 use Prim.Native.Nat.{ℕ, zero, suc, _+_, _*_, _-_, _/_, _%_, _^_, _≤_, _<_}
-use native.Mathlib.Nat.{le-refl, le-trans, lt-of-le-of-lt, lt-of-lt-of-le, add-mul, mul-le-mul-right, lt-of-mul-lt-mul-right, div-lt-iff-lt-mul, le-of-mul-le-mul-right}
+use native.Mathlib.Nat.{le-trans, add-mul, mul-le-mul-right, lt-of-mul-lt-mul-right}
 use native.Mathlib.Omega.{arith}
 use lib.Dec.{T, leb, leb→le}
-use lib.Pow.{pow-pos, pow-mono}
+use lib.Pow.{pow-mono}
 use lib.ListN.{getD}
 use Rattle.laws.proofs.Computed.{upTo, below}
 use Rattle.laws.proofs.Order.{by-order}
 use Rattle.logarithm.specs.Scale.{scaleNumber, unit}
 use Rattle.logarithm.specs.Tables.{firstTable, secondTable}
-use Rattle.logarithm.specs.Log2.{packing, firstSpacing, firstDivisor, secondSpacing, secondDivisor, slope, slopeDivisor, zerosOf, mantissa, entryOf, timesFactor, taken, left, lineOf, restOf, fractionOf, log2Of, InRange}
+use Rattle.logarithm.specs.Log2.{packing, firstSpacing, secondSpacing, zerosOf, mantissa, entryOf, timesFactor, taken, left, lineOf, restOf, fractionOf, log2Of, InRange}
 use Rattle.logarithm.proofs.Level.{Certified, small-at, factor-rounds-down, place, place-in, first-certified, second-certified}
-use Rattle.logarithm.proofs.Log2.{whole-part, normal, first-step, second-step}
+use Rattle.logarithm.proofs.Log2.{whole-part, normal, first-step}
 
 -- ---- a function that rises within each place and from each place to the next
 

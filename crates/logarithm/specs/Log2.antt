@@ -1,5 +1,6 @@
 -- The logarithm to the base 2 of a whole number, step by step as the code computes it, and what the code promises of it.
--- A crate above cites the laws of proofs/ about `log2Of` and does not open it, except to compute the logarithm of a literal.
+-- No reader has to believe the value: a crate above cites the laws about `log2Of` (`log2-enclosed` of proofs/Log2.antt, `log2-rises` of
+-- proofs/Rise.antt) and opens it only to compute the logarithm of a literal.
 use mathlib.Core.Path.{_≡_}
 use mathlib.Core.List.{List}
 use Prim.Native.Nat.{ℕ, _+_, _*_, _-_, _/_, _%_, _^_, _≤_, _<_}
@@ -8,7 +9,7 @@ use lib.ListN.{getD}
 use Rattle.logarithm.specs.Scale.{scale, scaleNumber, width, unit, bound}
 use Rattle.logarithm.specs.Tables.{firstTable, secondTable}
 
--- ---- the constants of the two levels and of the line; the names are those of the source in lower case
+-- ---- the constants of the two levels and of the line, as the source has them
 
 -- an entry is t * packing + j
 abbrev pub packing : ℕ

@@ -1,7 +1,7 @@
 // The logarithm to the base 2 of a whole number, enclosed by whole-number powers.
 //
-// For 1 <= x < 2^49, log2_scaled gives r with 2^r <= x^E and x^E <= 2^(r + 20), where E = 2^36: r / E is log2(x), rounded down
-// and too low by at most 20 / E. It never falls as x rises (proofs/Rise.antt).
+// For 1 <= x < 2^49, log2_scaled gives r with 2^r <= x^E and x^E <= 2^(r + 20), where E = 2^36: r / E is at or below log2(x), by at most
+// 20 / E. It never falls as x rises (proofs/Rise.antt). There is no loop.
 //
 // 1. x is shifted up to a mantissa m of 49 bits, UNIT <= m < 2 * UNIT; the shift is the whole part of the logarithm.
 // 2. First level: the place of m among 256 places, FIRST_SPACING apart, gives a factor (D - j) / D, D = FIRST_DIVISOR, and
