@@ -6,3 +6,7 @@ pub mod Deciding
 pub mod Constants
 pub mod Gap
 pub mod Numerators
+pub mod Tests
+pub mod Search
+pub mod OilLogarithms
+pub mod Right

@@ -1,0 +1,94 @@
+-- The two tests on logarithms: what they say as inequalities, how they follow each other, and what they show by whole powers.
+-- Assumes nothing.
+use Prim.Native.Nat.{ℕ, _+_, _*_, _-_, _^_, _≤_, _<_}
+use mathlib.Core.Path.{_≡_, refl, sym, _∙_, ap, subst₂}
+use mathlib.Core.Bool.{Bool, true, false}
+use mathlib.Core.Logic.{⊎-elim}
+use native.Mathlib.Omega.{arith}
+use native.Mathlib.Nat.{one-mul, eq-or-lt-of-le}
+use borrow.Author.Tests.{leb-true, leb-false, le-leb, lt-leb}
+use Rattle.laws.proofs.Powers.{one-pow, pow-mul}
+use Rattle.logarithm.specs.Scale.{scale, scale-is, width}
+use Rattle.logarithm.specs.Log2.{log2Of}
+use Rattle.logarithm.proofs.Log2.{log2-enclosed}
+use Rattle.logarithm.proofs.FromLogarithms.{powers-le, one-above, one-below}
+use Rattle.index.specs.ProcedureB.{Q, Q-is, c}
+use Rattle.index.specs.Chosen.{parts, log10, log10000000, showsLeast, showsMost}
+use Rattle.index.proofs.Constants.{ten, ten-million}
+use Rattle.index.proofs.Gap.{c-range, c-apart}
+
+-- ---- the tests as inequalities
+
+pub least-true : (p r : ℕ) → showsLeast p r ≡ true → (log2Of (c r) + width) * parts ≤ log10 * p + log10000000 * parts
+unfolding showsLeast
+least-true p r e = leb-true _ _ e
+
+pub least-false : (p r : ℕ) → showsLeast p r ≡ false → log10 * p + log10000000 * parts < (log2Of (c r) + width) * parts
+unfolding showsLeast
+least-false p r e = leb-false _ _ e
+
+pub true-least : (p r : ℕ) → (log2Of (c r) + width) * parts ≤ log10 * p + log10000000 * parts → showsLeast p r ≡ true
+unfolding showsLeast
+true-least p r h = le-leb _ _ h
+
+pub false-least : (p r : ℕ) → log10 * p + log10000000 * parts < (log2Of (c r) + width) * parts → showsLeast p r ≡ false
+unfolding showsLeast
+false-least p r h = lt-leb _ _ h
+
+pub most-true : (P r : ℕ) → showsMost P r ≡ true → (log10 + 1) * P + (log10000000 + 1) * parts ≤ log2Of (c r) * parts
+unfolding showsMost
+most-true P r e = leb-true _ _ e
+
+pub most-false : (P r : ℕ) → showsMost P r ≡ false → log2Of (c r) * parts < (log10 + 1) * P + (log10000000 + 1) * parts
+unfolding showsMost
+most-false P r e = leb-false _ _ e
+
+pub true-most : (P r : ℕ) → (log10 + 1) * P + (log10000000 + 1) * parts ≤ log2Of (c r) * parts → showsMost P r ≡ true
+unfolding showsMost
+true-most P r h = le-leb _ _ h
+
+-- ---- a greater p shows a smaller index too, and a smaller P shows the same
+
+c-in-order : (r s : ℕ) → 9900 ≤ r → r ≤ s → s ≤ 1000100 → log2Of (c r) ≤ log2Of (c s)
+c-in-order r s l h m =
+    ⊎-elim (λ (e : r ≡ s). let f : log2Of (c r) ≡ log2Of (c s) = ap (λ (n : ℕ). log2Of (c n)) e in omega arith)
+    (λ (a : r < s). omega (arith, c-apart r s l a m))
+    (eq-or-lt-of-le h)
+
+pub least-easier : (p q r s : ℕ) → q ≤ p → 9900 ≤ r → r ≤ s → s ≤ 1000100 → showsLeast q s ≡ true → showsLeast p r ≡ true
+least-easier p q r s l a h m e = true-least p r (omega (arith, least-true q s e, c-in-order r s a h m))
+
+pub most-easier : (P R r : ℕ) → R ≤ P → showsMost P r ≡ true → showsMost R r ≡ true
+most-easier P R r l e = true-most R r (omega (arith, most-true P r e))
+
+-- ---- what they show
+
+no-factor : (p x : ℕ) → 1 ^ p * x ≡ x
+no-factor p x = ap (λ (k : ℕ). k * x) (one-pow p) ∙ one-mul x
+
+seven : 10000000 ^ Q ≡ 10 ^ (7 * Q)
+seven = sym (pow-mul 10 7 Q)
+
+pub least-shows : (p r : ℕ) → 9900 ≤ r → r ≤ 1000100 → showsLeast p r ≡ true → c r ^ Q ≤ 10 ^ p * 10 ^ (7 * Q)
+least-shows p r l h e =
+    let t = least-true p r e in
+    subst₂ _≤_ (no-factor p (c r ^ Q)) (ap (λ (k : ℕ). 10 ^ p * k) seven)
+    (powers-le scale p Q 1 (c r) 10 10000000 0 (log2Of (c r) + width) log10 log10000000 (omega (arith, scale-is)) (one-above scale)
+    (log2-enclosed (c r) (c-range r l h) .above) (ten .below) (ten-million .below) (rw Q-is (omega arith)))
+
+pub most-shows : (P r : ℕ) → 9900 ≤ r → r ≤ 1000100 → showsMost P r ≡ true → 10 ^ P * 10 ^ (7 * Q) ≤ c r ^ Q
+most-shows P r l h e =
+    let t = most-true P r e in
+    subst₂ _≤_ (ap (λ (k : ℕ). 10 ^ P * k) seven) (no-factor P (c r ^ Q))
+    (powers-le scale P Q 10 10000000 1 (c r) (log10 + 1) (log10000000 + 1) 0 (log2Of (c r)) (omega (arith, scale-is)) (ten .above)
+    (ten-million .above) (one-below scale) (log2-enclosed (c r) (c-range r l h) .below) (rw Q-is (omega arith)))
+
+-- ---- beside a half: where p does not show at least r + 1 and P does not show at most r + 1, p shows at least r and P at most r + 2
+
+module _ (p P r : ℕ) (few : p ≤ 30758229) (next : P ≤ p + 2) (low : 9900 ≤ r) (high : r ≤ 1000000)
+    (l : showsLeast p (r + 1) ≡ false) (g : showsMost P (r + 1) ≡ false) where
+  pub beside-least : showsLeast p r ≡ true
+  beside-least = true-least p r (omega (arith, c-apart r (r + 1) low (omega arith) (omega arith), most-false P (r + 1) g))
+
+  pub beside-most : showsMost P (r + 2) ≡ true
+  beside-most = true-most P (r + 2) (omega (arith, c-apart (r + 1) (r + 2) (omega arith) (omega arith) (omega arith), least-false p (r + 1) l))
