@@ -1,9 +1,11 @@
 -- The logarithms that the code holds as constants, certified: each is at most 1 below the logarithm in units of 1 / E.
 -- Assumes nothing.
-use Prim.Native.Nat.{ℕ, _+_, _^_, _≤_}
-use mathlib.Core.Path.{_≡_}
+use Prim.Native.Nat.{ℕ, _+_, _*_, _^_, _≤_}
+use mathlib.Core.Path.{_≡_, sym, _∙_, ap}
+use native.Mathlib.Nat.{le-of-eq}
 use lib.Dec.{T}
-use Rattle.logarithm.specs.Scale.{scale, scale-is}
+use Rattle.laws.proofs.Powers.{pow-mul}
+use Rattle.logarithm.specs.Scale.{scale, scale-is, scaleNumber}
 use Rattle.logarithm.proofs.Certificate.{least, most, atLeast, atMost, whole-least, whole-most}
 use Rattle.index.specs.Chosen.{log10, log1000, log10000000}
 
@@ -26,3 +28,10 @@ thousand = certified 9 1000 log1000 tt tt
 pub ten-million : Certified 10000000 log10000000
 unfolding atLeast atMost least most
 ten-million = certified 23 10000000 log10000000 tt tt
+
+-- 2 and 128, whose logarithms are whole
+pub two-below : 2 ^ scaleNumber ≤ 2 ^ scale
+two-below = le-of-eq (ap (λ (n : ℕ). 2 ^ n) (sym scale-is))
+
+pub one-two-eight-above : 128 ^ scale ≤ 2 ^ (7 * scaleNumber)
+one-two-eight-above = le-of-eq (sym (pow-mul 2 7 scale) ∙ ap (λ (n : ℕ). 2 ^ (7 * n)) scale-is)

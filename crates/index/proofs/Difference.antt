@@ -4,8 +4,9 @@ use Prim.Native.Nat.{ℕ, zero, suc, _+_, _*_, _-_, _<_, _≤_}
 use mathlib.Core.Path.{_≡_, refl, sym, _∙_, ap}
 use lib.IntN.{ℤ, pos, negsuc, negℤ, subℕ, _-ℤ_, _*ℤ_}
 use lib.Signed.{_≤ℤ_}
-use lib.Dec.{le→leb}
+use lib.Dec.{le→leb, leb→le}
 use native.Mathlib.Omega.{arith}
+use native.Mathlib.Nat.{le-trans}
 use borrow.Author.Tests.{lt-ltb, le-ltb}
 use Rattle.laws.proofs.Order.{by-order}
 
@@ -39,6 +40,18 @@ pos-le a b h = record { le = le→leb a b h }
 
 pub neg-le : (a b : ℕ) → b ≤ a → negsuc a ≤ℤ negsuc b
 neg-le a b h = record { le = le→leb b a h }
+
+joins : (a b c : ℤ) → a ≤ℤ b → b ≤ℤ c → a ≤ℤ c
+joins (pos a) (pos b) (pos c) h k = pos-le a c (le-trans (leb→le a b (h .le)) (leb→le b c (k .le)))
+joins (pos a) (pos b) (negsuc c) h k = absurd (k .le)
+joins (pos a) (negsuc b) c h k = absurd (h .le)
+joins (negsuc a) (pos b) (pos c) h k = record { le = tt }
+joins (negsuc a) (pos b) (negsuc c) h k = absurd (k .le)
+joins (negsuc a) (negsuc b) (pos c) h k = record { le = tt }
+joins (negsuc a) (negsuc b) (negsuc c) h k = neg-le a c (le-trans (leb→le c b (k .le)) (leb→le b a (h .le)))
+
+pub order-joins : {a b c : ℤ} → a ≤ℤ b → b ≤ℤ c → a ≤ℤ c
+order-joins {a} {b} {c} h k = joins a b c h k
 
 -- a − c is at most a − b where b is at most c
 pub sub-falls : (a b c : ℕ) → b ≤ c → subℕ a c ≤ℤ subℕ a b

@@ -7,6 +7,8 @@ pub mod Constants
 pub mod Gap
 pub mod Numerators
 pub mod Tests
-pub mod Search
+pub mod Halving
 pub mod OilLogarithms
+pub mod OilNumerators
 pub mod Right
+pub mod Order

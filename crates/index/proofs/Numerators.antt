@@ -14,7 +14,7 @@ use Rattle.logarithm.specs.Scale.{scale, scale-is, scaleNumber, width, bound}
 use Rattle.logarithm.specs.Log2.{Enclosed}
 use Rattle.logarithm.proofs.FromLogarithms.{powers-le}
 use Rattle.index.specs.ProcedureB.{Q, Q-is}
-use Rattle.index.specs.Chosen.{parts, log1000, lowerFrom, upperFrom}
+use Rattle.index.specs.Chosen.{parts, log1000, InBounds, lowerFrom, upperFrom}
 use Rattle.index.proofs.Constants.{thousand}
 
 -- what is known of the logarithms of an oil below H
@@ -53,7 +53,29 @@ upper-sum P v ly lU lH h o e =
     let q : ly * P ≡ (v + (log1000 + 1)) * P = ap (λ (k : ℕ). k * P) e in
     simp ring (omega (arith, simp ring at q, h))
 
+-- ---- how large they get: for the code's arithmetic
+
+pub lower-none : (ly lU lH : ℕ) → lH ≤ lU + width → lowerFrom ly lU lH ≡ 0
+unfolding lowerFrom
+lower-none ly lU lH l = let e : lH - (lU + width) ≡ 0 = omega arith in rw e (zero-div _)
+
+small-algebra : (p d e K n s : ℕ) → p * d ≤ K * n → n ≤ 7 * s → s ≤ d → e ≤ d → 0 < s → (p ≤ 7 * K) × ((p + 1) * e ≤ K * (7 * s) + e)
+small-algebra p d e K n s h l m g z =
+    let a : p * s ≤ 7 * K * s = simp ring (omega (arith, mul-le-mul-left p m, simp ring at (mul-le-mul-left K l))) in
+    (le-of-mul-le-mul-right a z, simp ring (omega (arith, mul-le-mul-left p g, simp ring at (mul-le-mul-left K l))))
+
+pub lower-small : (ly lU lH : ℕ) → InBounds ly lU lH →
+    (lowerFrom ly lU lH ≤ 7 * parts) × ((lowerFrom ly lU lH + 1) * (ly - (log1000 + 1)) ≤ parts * (7 * scaleNumber) + (ly - (log1000 + 1)))
+unfolding lowerFrom
+lower-small ly lU lH b =
+    small-algebra _ (ly + width - log1000) (ly - (log1000 + 1)) parts (lH - (lU + width)) scaleNumber (div-mul-le-self _ _) (omega (arith, b .close)) (omega (arith, b .least)) (omega arith) (omega arith)
+
+-- ---- what they show
+
 module _ (y U H ly lU lH : ℕ) (o : Logarithms y U H ly lU lH) where
+  pub in-bounds : InBounds ly lU lH
+  in-bounds = record { least = o .least; most = o .y-is .small; order = o .order; close = o .close; small = o .H-is .small }
+
   floor : lowerFrom ly lU lH * (ly + width - log1000) ≤ parts * (lH - (lU + width))
   unfolding lowerFrom
   floor = div-mul-le-self _ _
@@ -65,17 +87,13 @@ module _ (y U H ly lU lH : ℕ) (o : Logarithms y U H ly lU lH) where
   pub few : lowerFrom ly lU lH ≤ 30758229
   few =
       let r : 6 * lowerFrom ly lU lH ≤ 11 * parts =
-          few-algebra parts (lowerFrom ly lU lH) (ly + width - log1000) (lH - (lU + width)) (omega (arith, o .least)) floor (omega (arith, o .range, o .least)) in
+      few-algebra parts (lowerFrom ly lU lH) (ly + width - log1000) (lH - (lU + width)) (omega (arith, o .least)) floor (omega (arith, o .range, o .least)) in
       omega arith
-
-  none : lH < lU + width → lowerFrom ly lU lH ≡ 0
-  unfolding lowerFrom
-  none l = let e : lH - (lU + width) ≡ 0 = omega arith in rw e (zero-div _)
 
   pub lower-shows : y ^ lowerFrom ly lU lH * U ^ Q ≤ 1000 ^ lowerFrom ly lU lH * H ^ Q
   lower-shows =
       by-order lH (lU + width)
-      (λ l. rw (none l, pow-zero y, pow-zero 1000) (mul-le-mul-left 1 (pow-le-pow-left (o .below) Q)))
+      (λ l. rw (lower-none ly lU lH (omega arith), pow-zero y, pow-zero 1000) (mul-le-mul-left 1 (pow-le-pow-left (o .below) Q)))
       (λ l. let s = lower-sum (lowerFrom ly lU lH) (ly + width - log1000) ly lU lH floor l (omega (arith, o .least)) in
       powers-le scale (lowerFrom ly lU lH) Q y U 1000 H (ly + width) (lU + width) log1000 lH (omega (arith, scale-is))
       (o .y-is .above) (o .U-is .above) (thousand .below) (o .H-is .below) (rw Q-is s))

@@ -1,15 +1,15 @@
 -- What holds of the logarithms of y, U and H of an oil below H, from the limits and from the bounds of H by y.
 -- Assumes nothing.
 use Prim.Native.Nat.{ℕ, _+_, _*_, _^_, _≤_, _<_}
-use mathlib.Core.Path.{_≡_, refl, sym, _∙_, ap}
+use mathlib.Core.Path.{_≡_, refl, sym}
 use native.Mathlib.Omega.{arith}
-use native.Mathlib.Nat.{le-trans, le-of-eq, mul-assoc, mul-comm, mul-left-comm, mul-one, mul-le-mul-right, pow-le-pow-left}
+use native.Mathlib.Nat.{le-trans, le-of-eq, mul-assoc, mul-comm, mul-left-comm, mul-le-mul-right, pow-le-pow-left}
 use lib.Pow.{pow-add}
-use Rattle.laws.proofs.Powers.{mul-pow, pow-mul, pow-one}
+use Rattle.laws.proofs.Powers.{mul-pow, pow-one}
 use Rattle.reference.specs.Basis.{H-at}
 use Rattle.reference.proofs.Bounds.{bounds}
 use Rattle.reference.proofs.Range.{range, ratio}
-use Rattle.logarithm.specs.Scale.{scale, scale-is, scaleNumber, width, unit}
+use Rattle.logarithm.specs.Scale.{scale, scaleNumber, width, unit}
 use Rattle.logarithm.specs.Log2.{log2Of, InRange, Enclosed}
 use Rattle.logarithm.proofs.Log2.{log2-enclosed}
 use Rattle.logarithm.proofs.Rise.{log2-rises}
@@ -17,7 +17,7 @@ use Rattle.logarithm.proofs.FromLogarithms.{logs-le, one-above, one-below}
 use Rattle.index.specs.ProcedureA.{inUnits}
 use Rattle.index.specs.Chosen.{log1000}
 use Rattle.index.proofs.Accepted.{Accepted}
-use Rattle.index.proofs.Constants.{thousand}
+use Rattle.index.proofs.Constants.{thousand, two-below, one-two-eight-above}
 use Rattle.index.proofs.Numerators.{Logarithms}
 
 -- (H/U)^6 ≤ Y^11 in whole numbers
@@ -30,21 +30,14 @@ sixth-power y U H h l =
     spread : (a b c g h k : ℕ) → a ≡ b * c → k ≡ g * h → g * a * h ≡ b * k * c
     spread a b c g h k e f = rw (e, f) (simp (mul-assoc, mul-comm, mul-left-comm))
 
--- 2 and 128, whose logarithms are whole
-two-below : 2 ^ scaleNumber ≤ 2 ^ scale
-two-below = le-of-eq (ap (λ (n : ℕ). 2 ^ n) (sym scale-is))
-
-hundred-twenty-eight-above : 128 ^ scale ≤ 2 ^ (7 * scaleNumber)
-hundred-twenty-eight-above = le-of-eq (sym (pow-mul 2 7 scale) ∙ ap (λ (n : ℕ). 2 ^ (7 * n)) scale-is)
-
 module _ (u y : ℕ) (a : Accepted u y) (below : inUnits u < H-at y) where
-  y-range : InRange y
+  pub y-range : InRange y
   y-range = record { least = omega (arith, a .least); most = omega (arith, a .most) }
 
-  H-range : InRange (H-at y)
+  pub H-range : InRange (H-at y)
   H-range = let b = bounds y (a .least) (a .most) in record { least = omega (arith, b .least-h); most = omega (arith, b .most-h) }
 
-  U-range : InRange (inUnits u)
+  pub U-range : InRange (inUnits u)
   U-range = let b = bounds y (a .least) (a .most) in record { least = omega (arith, a .least, a .thicker); most = omega (arith, b .most-h) }
 
   y-is : Enclosed y (log2Of y)
@@ -59,21 +52,21 @@ module _ (u y : ℕ) (a : Accepted u y) (below : inUnits u < H-at y) where
   at-least-two : log1000 + scaleNumber ≤ log2Of y + width
   at-least-two =
       let h = logs-le scale 1 1 1000 2 y 1 log1000 scaleNumber (log2Of y + width) 0 (thousand .below) two-below (y-is .above) (one-above scale)
-          (rw (pow-one y) (omega (arith, a .least))) in
+      (rw (pow-one y) (omega (arith, a .least))) in
       omega arith
 
   at-most-128 : log2Of (H-at y) ≤ log2Of (inUnits u) + width + 7 * scaleNumber
   at-most-128 =
       let h = logs-le scale 1 1 (H-at y) 1 (inUnits u) 128 (log2Of (H-at y)) 0 (log2Of (inUnits u) + width) (7 * scaleNumber)
-          (H-is .below) (one-below scale) (U-is .above) hundred-twenty-eight-above
-          (rw (pow-one (H-at y), pow-one (inUnits u)) (omega (arith, ratio y (a .least) (a .most), a .thicker))) in
+      (H-is .below) (one-below scale) (U-is .above) one-two-eight-above
+      (rw (pow-one (H-at y), pow-one (inUnits u)) (omega (arith, ratio y (a .least) (a .most), a .thicker))) in
       omega arith
 
   in-range : 6 * log2Of (H-at y) + 11 * log1000 ≤ 6 * (log2Of (inUnits u) + width) + 11 * (log2Of y + width)
   in-range =
       let h = logs-le scale 6 11 (H-at y) 1000 (inUnits u) y (log2Of (H-at y)) log1000 (log2Of (inUnits u) + width) (log2Of y + width)
-          (H-is .below) (thousand .below) (U-is .above) (y-is .above)
-          (sixth-power y (inUnits u) (H-at y) (range y (a .least) (a .most)) (omega (arith, a .thicker))) in
+      (H-is .below) (thousand .below) (U-is .above) (y-is .above)
+      (sixth-power y (inUnits u) (H-at y) (range y (a .least) (a .most)) (omega (arith, a .thicker))) in
       omega arith
 
   pub logarithms : Logarithms y (inUnits u) (H-at y) (log2Of y) (log2Of (inUnits u)) (log2Of (H-at y))

@@ -18,12 +18,12 @@ use Rattle.index.specs.Questions.{refusal}
 use Rattle.index.specs.ProcedureA.{inUnits, indexA}
 use Rattle.index.specs.ProcedureB.{Q, AtLeast, AtMost, SettledAt, NearAt}
 use Rattle.index.specs.Answer.{RightB, RightAnswer}
-use Rattle.index.specs.Chosen.{showsLeast, showsMost, lowerOfPair, upperOfPair, wholeOf, markedOf, byB, decidedOf, finishedOf, answerOf}
+use Rattle.index.specs.Chosen.{showsLeast, showsMost, lowerOfPair, upperOfPair, wholeOf, made, markedOf, byB, decidedOf, finishedOf, answerOf}
 use Rattle.index.proofs.Accepted.{Accepted, by-questions, passes}
 use Rattle.index.proofs.Deciding.{decided-refused, decided-below, decided-a}
 use Rattle.index.proofs.Numerators.{Upper, few, lower-shows, upper, upper-shows}
 use Rattle.index.proofs.Tests.{least-shows, most-shows, beside-least, beside-most}
-use Rattle.index.proofs.Search.{Bracket, whole}
+use Rattle.index.proofs.Halving.{Bracket, whole}
 use Rattle.index.proofs.OilLogarithms.{logarithms}
 
 -- ---- procedure B, for any p and P that enclose N and a k found for p
@@ -63,10 +63,7 @@ module _ (u y p P k : ℕ) (below : inUnits u < H-at y)
   unfolding markedOf
   marked-right = go (showsMost P (100 * k + 50)) refl
     where
-      made : Bool → ByB
-      made t = cond t (record { index = k; mark = mark.Settled; lower = p; upper = P }) (record { index = k + 1; mark = mark.Near; lower = p; upper = P })
-
-      go : (t : Bool) → showsMost P (100 * k + 50) ≡ t → RightB u y (made t)
+      go : (t : Bool) → showsMost P (100 * k + 50) ≡ t → RightB u y (cond t (made k mark.Settled p P) (made (k + 1) mark.Near p P))
       go true e = record { below = below; least = b .least; most = omega (arith, b .most); marked = settled e }
       go false e = record { below = below; least = omega (arith, b .least); most = b .most; marked = near e }
 

@@ -6,16 +6,28 @@ use mathlib.Core.Bool.{Bool, true, false}
 use mathlib.Core.Logic.{⊎-elim}
 use native.Mathlib.Omega.{arith}
 use native.Mathlib.Nat.{one-mul, eq-or-lt-of-le}
+use lib.Dec.{leb}
 use borrow.Author.Tests.{leb-true, leb-false, le-leb, lt-leb}
-use Rattle.laws.proofs.Powers.{one-pow, pow-mul}
-use Rattle.logarithm.specs.Scale.{scale, scale-is, width}
+use Rattle.laws.proofs.Powers.{one-pow, pow-one, pow-mul}
+use Rattle.logarithm.specs.Scale.{scale, scale-is, scaleNumber, width}
 use Rattle.logarithm.specs.Log2.{log2Of}
 use Rattle.logarithm.proofs.Log2.{log2-enclosed}
-use Rattle.logarithm.proofs.FromLogarithms.{powers-le, one-above, one-below}
+use Rattle.logarithm.proofs.FromLogarithms.{powers-le, logs-le, one-above, one-below}
+use Rattle.index.specs.declared.Trial.the-variants as trial
 use Rattle.index.specs.ProcedureB.{Q, Q-is, c}
-use Rattle.index.specs.Chosen.{parts, log10, log10000000, showsLeast, showsMost}
-use Rattle.index.proofs.Constants.{ten, ten-million}
-use Rattle.index.proofs.Gap.{c-range, c-apart}
+use Rattle.index.specs.Chosen.{parts, log10, log10000000, LogOfC, showsLeast, showsMost, trialOf}
+use Rattle.index.proofs.Constants.{ten, ten-million, one-two-eight-above}
+use Rattle.index.proofs.Gap.{apart, c-range, c-apart}
+
+-- ---- the logarithm of c, where the code looks at it
+
+pub log-of-c : (r : ℕ) → 10050 ≤ r → r ≤ 1000050 → LogOfC (log2Of (c r))
+log-of-c r l h =
+    let e = log2-enclosed (c r) (c-range r (omega arith) (omega arith)) in
+    let g = apart 10000000 (c r) log10000000 (log2Of (c r) + width) (omega arith) (omega arith) (omega arith) (ten-million .below) (e .above) in
+    let m = logs-le scale 1 1 (c r) 1 10000000 128 (log2Of (c r)) 0 (log10000000 + 1) (7 * scaleNumber) (e .below) (one-below scale) (ten-million .above)
+    one-two-eight-above (rw (pow-one (c r)) (omega arith)) in
+    record { more = omega arith; most = omega arith }
 
 -- ---- the tests as inequalities
 
@@ -46,6 +58,36 @@ most-false P r e = leb-false _ _ e
 pub true-most : (P r : ℕ) → (log10 + 1) * P + (log10000000 + 1) * parts ≤ log2Of (c r) * parts → showsMost P r ≡ true
 unfolding showsMost
 true-most P r h = le-leb _ _ h
+
+-- ---- the tests from a logarithm that the code has found
+
+pub least-is : (p r lc : ℕ) → lc ≡ log2Of (c r) → leb ((lc + width) * parts) (log10 * p + log10000000 * parts) ≡ showsLeast p r
+unfolding showsLeast
+least-is p r lc e = ap (λ (l : ℕ). leb ((l + width) * parts) (log10 * p + log10000000 * parts)) e
+
+pub most-is : (P r lc : ℕ) → lc ≡ log2Of (c r) → leb ((log10 + 1) * P + (log10000000 + 1) * parts) (lc * parts) ≡ showsMost P r
+unfolding showsMost
+most-is P r lc e = ap (λ (l : ℕ). leb ((log10 + 1) * P + (log10000000 + 1) * parts) (l * parts)) e
+
+-- ---- what trying k says
+
+module _ (k p P : ℕ) where
+  pub trial-higher : showsLeast p (100 * k + 50) ≡ true → trialOf k p P ≡ trial.Higher
+  unfolding trialOf
+  trial-higher a = rw a
+
+  module _ (a : showsLeast p (100 * k + 50) ≡ false) where
+    pub trial-lower : showsLeast p (100 * k - 50) ≡ false → trialOf k p P ≡ trial.Lower
+    unfolding trialOf
+    trial-lower b = rw (a, b)
+
+    pub trial-settled : showsLeast p (100 * k - 50) ≡ true → showsMost P (100 * k + 50) ≡ true → trialOf k p P ≡ trial.Settled
+    unfolding trialOf
+    trial-settled b d = rw (a, b, d)
+
+    pub trial-near : showsLeast p (100 * k - 50) ≡ true → showsMost P (100 * k + 50) ≡ false → trialOf k p P ≡ trial.Near
+    unfolding trialOf
+    trial-near b d = rw (a, b, d)
 
 -- ---- a greater p shows a smaller index too, and a smaller P shows the same
 

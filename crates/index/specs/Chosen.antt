@@ -7,8 +7,9 @@ use mathlib.Core.Path.{_≡_}
 use mathlib.Core.Bool.{Bool, cond}
 use lib.Dec.{ltb, leb, eqb}
 use Rattle.reference.specs.Basis.{H-at}
-use Rattle.logarithm.specs.Scale.{scaleNumber, width}
+use Rattle.logarithm.specs.Scale.{scaleNumber, width, bound}
 use Rattle.logarithm.specs.Log2.{log2Of}
+use Rattle.index.specs.declared.Mark.{Mark}
 use Rattle.index.specs.declared.Mark.the-variants as mark
 use Rattle.index.specs.declared.Trial.{Trial}
 use Rattle.index.specs.declared.Trial.the-variants as trial
@@ -40,6 +41,14 @@ log10000000 = 1597968123046
 
 -- ---- the two numerators, from the logarithms of y, U and H
 
+-- what the logarithms of an oil below H keep to: Y is at least 2, U is not above H, and H is at most 128 times U
+pub record InBounds (ly lU lH : ℕ) : Type 0 where
+  pub least : log1000 + scaleNumber ≤ ly + width
+  pub most : ly < bound
+  pub order : lU ≤ lH
+  pub close : lH ≤ lU + width + 7 * scaleNumber
+  pub small : lH < bound
+
 -- p: N rounded down, with every logarithm on the side that makes it smaller
 unfoldable pub lowerFrom : ℕ → ℕ → ℕ → ℕ
 lowerFrom ly lU lH = parts * (lH - (lU + width)) / (ly + width - log1000)
@@ -49,6 +58,11 @@ unfoldable pub upperFrom : ℕ → ℕ → ℕ → ℕ → ℕ
 upperFrom ly lU lH p = cond (leb (parts * (lH + width - lU)) ((p + 1) * (ly - (log1000 + 1)))) (p + 1) (p + 2)
 
 -- ---- the index
+
+-- what the logarithm of c keeps to wherever the code looks at it: c is above 10^7 and at most 128 times that
+pub record LogOfC (lc : ℕ) : Type 0 where
+  pub more : log10000000 + 1 ≤ lc
+  pub most : lc ≤ log10000000 + 1 + 7 * scaleNumber
 
 -- do the logarithms show that p shows "at least r", and P "at most r"?
 unfoldable pub showsLeast : ℕ → ℕ → Bool
@@ -66,12 +80,12 @@ searchOf (suc f) p lo hi = cond (showsLeast p (100 * ((lo + hi) / 2) - 50)) (sea
 unfoldable pub wholeOf : ℕ → ℕ
 wholeOf p = searchOf 14 p 100 10000
 
+abbrev pub made : ℕ → Mark → ℕ → ℕ → ByB
+made k m p P = record { index = k; mark = m; lower = p; upper = P }
+
 -- settled k where at most 100·k + 50 is shown too; otherwise near k + 1
 unfoldable pub markedOf : ℕ → ℕ → ℕ → ByB
-markedOf k p P =
-    cond (showsMost P (100 * k + 50))
-    (record { index = k; mark = mark.Settled; lower = p; upper = P })
-    (record { index = k + 1; mark = mark.Near; lower = p; upper = P })
+markedOf k p P = cond (showsMost P (100 * k + 50)) (made k mark.Settled p P) (made (k + 1) mark.Near p P)
 
 -- what the code finds when it tries k
 unfoldable pub trialOf : ℕ → ℕ → ℕ → Trial

@@ -6,7 +6,7 @@
 // k − 0.5 and not k + 0.5: it is guessed from p, tried, and searched by halving where the guess was wrong. If P shows at most k + 0.5, k is
 // settled; otherwise the index is so close to k + 0.5 that it is near k + 1. All is done on 64-bit whole numbers.
 //
-// The functions that calculate are lent the tables; `answer` copies those that it needs, and a caller with many pairs copies them once and
+// The functions that calculate are lent the tables; `answer_pair` copies those that it needs, and a caller with many pairs copies them once and
 // calls `answer_lent`.
 ghost use mathlib.Core.Path.{_≡_};
 ghost use mathlib.Core.Bool.{Bool};
@@ -17,11 +17,12 @@ ghost use Rattle.reference.specs.Table1.{table1};
 ghost use Rattle.reference.specs.Viscosity.{least100, greatest100, greatest40};
 ghost use Rattle.logarithm.specs.Scale.{scaleNumber, width, bound};
 ghost use Rattle.logarithm.specs.Log2 as logarithm;
+ghost use Rattle.logarithm.specs.Log2.{log2Of};
 ghost use Rattle.index.specs.ProcedureA.{floorDiv, roundedA};
 ghost use Rattle.index.specs.ProcedureB.{c};
 ghost use Rattle.index.specs.Answer.{RightAnswer};
 ghost use Rattle.index.specs.Lent.{Lent};
-ghost use Rattle.index.specs.Chosen.{parts, log10, log1000, log10000000, lowerFrom, upperFrom, showsLeast, showsMost, wholeOf, markedOf, trialOf, byB, BelowH, decidedOf, answerOf};
+ghost use Rattle.index.specs.Chosen.{parts, log10, log1000, log10000000, InBounds, LogOfC, lowerFrom, upperFrom, showsLeast, showsMost, wholeOf, made, markedOf, trialOf, byB, BelowH, decidedOf, answerOf};
 use reference::Asked40;
 use reference::Asked100;
 use reference::Kv40;
@@ -134,5 +135,261 @@ fn decide(rows: &[u32; 622], u: u32, y: u32) -> Decided
             Asked40::Refused(number) => Decided::Refused(number),
             Asked40::Within(at40) => decide_within(rows, at40, at100),
         },
+    }
+}
+
+// ---- procedure B
+
+// Q, the denominator of the two fractions.
+const Q: u64 = 16_777_216;
+
+// How far above its value a logarithm may lie, in units of 1 / 2^36 (crate logarithm).
+const WIDTH: u64 = 20;
+
+// The logarithms to the base 2 of 10, 1000 and 10^7 in units of 1 / 2^36, rounded down. Each is certified in proofs/Constants.antt.
+const LOG_10: u64 = 228_281_160_435;
+
+const LOG_1000: u64 = 684_843_481_305;
+
+const LOG_10_7: u64 = 1_597_968_123_046;
+
+// p, from the logarithms of y, U and H: N rounded down, with every logarithm on the side that makes it smaller.
+fn lower_numerator(ly: u64, lu: u64, lh: u64) -> u64
+    requires { ⌜ InBounds ly lu lh ⌝ }
+    ensures { λ r. ⌜ r ≡ lowerFrom ly lu lh ⌝ }
+{
+    if lh <= lu + WIDTH {
+        return 0;
+    }
+    Q * (lh - (lu + WIDTH)) / (ly + WIDTH - LOG_1000)
+}
+
+// P: the first after p that is not below N, with every logarithm on the side that makes N greater. It is p + 1 or p + 2, so one product
+// tells, and no second division is needed.
+fn upper_numerator(ly: u64, lu: u64, lh: u64, p: u64) -> u64
+    requires { ⌜ InBounds ly lu lh × (p ≡ lowerFrom ly lu lh) ⌝ }
+    ensures { λ r. ⌜ r ≡ upperFrom ly lu lh p ⌝ }
+{
+    if Q * (lh + WIDTH - lu) <= (p + 1) * (ly - (LOG_1000 + 1)) {
+        return p + 1;
+    }
+    p + 2
+}
+
+// c(r) = 10,000,000 + 715 · (r − 10,000), 10^7 times 10^N at an index of r hundredths.
+fn c_of(r: u64) -> u64
+    requires { ⌜ (9900 ≤ r) × (r ≤ 1000100) ⌝ }
+    ensures { λ x. ⌜ x ≡ c r ⌝ }
+{
+    10_000_000 + 715 * r - 7_150_000
+}
+
+// The logarithm of c(r), for an r at which the code looks.
+fn log_c(first: &[u64; 256], second: &[u64; 256], r: u64) -> u64
+    requires lent { ⌜ logarithm.Lent (now first) (now second) ⌝ }
+    requires { ⌜ (10050 ≤ r) × (r ≤ 1000050) ⌝ }
+    ensures { λ x. ⌜ (x ≡ log2Of (c r)) × LogOfC x ⌝ }
+{
+    logarithm::log2_scaled(first, second, c_of(r))
+}
+
+// Do the logarithms show that p shows "at least r"? lc is the logarithm of c(r); 10^7 is taken off it, so that the products fit 64 bits.
+fn shows_least(lc: u64, p: u64) -> bool
+    requires { ⌜ LogOfC lc × (p ≤ 30758229) ⌝ }
+    ensures { λ b. ⌜ b ≡ leb ((lc + width) * parts) (log10 * p + log10000000 * parts) ⌝ }
+{
+    (lc + WIDTH - LOG_10_7) * Q <= LOG_10 * p
+}
+
+// Do the logarithms show that P shows "at most r"?
+fn shows_most(lc: u64, upper: u64) -> bool
+    requires { ⌜ LogOfC lc × (upper ≤ 30758231) ⌝ }
+    ensures { λ b. ⌜ b ≡ leb ((log10 + 1) * upper + (log10000000 + 1) * parts) (lc * parts) ⌝ }
+{
+    (LOG_10 + 1) * upper <= (lc - (LOG_10_7 + 1)) * Q
+}
+
+// Is at least k − 0.5 shown? Of 100 it always is: c is below 10^7 there.
+fn shown_below(first: &[u64; 256], second: &[u64; 256], k: u64, p: u64) -> bool
+    requires lent { ⌜ logarithm.Lent (now first) (now second) ⌝ }
+    requires { ⌜ (100 ≤ k) × (k ≤ 10000) × (p ≤ 30758229) ⌝ }
+    ensures { λ b. ⌜ b ≡ showsLeast p (100 * k - 50) ⌝ }
+{
+    if k <= 100 {
+        return true;
+    }
+    shows_least(log_c(first, second, 100 * k - 50), p)
+}
+
+// What trying k says.
+fn try_index(first: &[u64; 256], second: &[u64; 256], k: u64, p: u64, upper: u64) -> Trial
+    requires lent { ⌜ logarithm.Lent (now first) (now second) ⌝ }
+    requires { ⌜ (100 ≤ k) × (k < 10000) × (p ≤ 30758229) × (upper ≤ 30758231) ⌝ }
+    ensures { λ r. ⌜ r ≡ trialOf k p upper ⌝ }
+{
+    let above = log_c(first, second, 100 * k + 50);
+    if shows_least(above, p) {
+        return Trial::Higher;
+    }
+    if shown_below(first, second, k, p) {
+        if shows_most(above, upper) {
+            return Trial::Settled;
+        }
+        return Trial::Near;
+    }
+    Trial::Lower
+}
+
+// The search for k by halving, where the guess was wrong.
+fn search(first: &[u64; 256], second: &[u64; 256], p: u64) -> u64
+    requires lent { ⌜ logarithm.Lent (now first) (now second) ⌝ }
+    requires { ⌜ p ≤ 30758229 ⌝ }
+    ensures { λ r. ⌜ r ≡ wholeOf p ⌝ }
+{
+    let mut lo: u64 = 100;
+    let mut hi: u64 = 10_000;
+    while lo + 1 < hi {
+        let middle = (lo + hi) / 2;
+        if shown_below(first, second, middle, p) {
+            lo = middle;
+        } else {
+            hi = middle;
+        }
+    }
+    lo
+}
+
+// One step of the polynomial below: a + v · f, f in units of 2^-24.
+fn step(a: u64, v: u64, f: u64) -> u64
+    requires { ⌜ (a < 8589934592) × (v < 17179869184) × (f < 16777216) ⌝ }
+    ensures { λ r. ⌜ r ≤ a + v ⌝ }
+{
+    a + v * f / 16_777_216
+}
+
+// 2^(f / 2^24) in units of 2^-32, for f below 2^24: the polynomial of the fourth degree that fits best, off by at most 4 millionths.
+fn power_of_two(f: u64) -> u64
+    requires { ⌜ f < 16777216 ⌝ }
+    ensures { λ r. ⌜ r < 17179869184 ⌝ }
+{
+    let cubic = step(222_243_073, 58_713_532, f);
+    let square = step(1_037_682_813, cubic, f);
+    let linear = step(2_976_296_038, square, f);
+    step(4_294_982_298, linear, f)
+}
+
+// A number from 100 to 9,999.
+fn within_search(k: u64) -> u64
+    ensures { λ r. ⌜ (100 ≤ r) × (r < 10000) ⌝ }
+{
+    if k < 100 {
+        return 100;
+    }
+    if 9_999 < k {
+        return 9_999;
+    }
+    k
+}
+
+// A guess of k from p, which nothing leans on: 10^(p / Q) as a power of two, then the index at it, rounded. 217,706 / 2^16 is log2 10.
+fn guess(p: u64) -> u64
+    requires { ⌜ p ≤ 30758229 ⌝ }
+    ensures { λ r. ⌜ (100 ≤ r) × (r < 10000) ⌝ }
+{
+    let z = p * 217_706 / 65_536;
+    let c = (10_000_000 * power_of_two(z % 16_777_216) / 4_294_967_296) << (z / 16_777_216 % 8);
+    if c < 10_000_000 {
+        return 100;
+    }
+    within_search((c - 2_814_250) / 71_500)
+}
+
+// An index by procedure B, from numbers that are known to fit.
+fn by_b(k: u64, mark: Mark, p: u64, upper: u64) -> ByB
+    requires { ⌜ (k ≤ 10000) × (p ≤ 30758229) × (upper ≤ 30758231) ⌝ }
+    ensures { λ r. ⌜ r ≡ made k mark p upper ⌝ }
+{
+    ByB {
+        index: k as u32,
+        mark,
+        lower: p as u32,
+        upper: upper as u32,
+    }
+}
+
+// The mark of a k that was searched.
+fn mark_of(first: &[u64; 256], second: &[u64; 256], k: u64, p: u64, upper: u64) -> ByB
+    requires lent { ⌜ logarithm.Lent (now first) (now second) ⌝ }
+    requires { ⌜ (100 ≤ k) × (k < 10000) × (p ≤ 30758229) × (upper ≤ 30758231) ⌝ }
+    ensures { λ r. ⌜ r ≡ markedOf k p upper ⌝ }
+{
+    if shows_most(log_c(first, second, 100 * k + 50), upper) {
+        return by_b(k, Mark::Settled, p, upper);
+    }
+    by_b(k + 1, Mark::Near, p, upper)
+}
+
+// The index of p and P: the guess, where it proves right; otherwise the search.
+fn index_of(first: &[u64; 256], second: &[u64; 256], p: u64, upper: u64) -> ByB
+    requires lent { ⌜ logarithm.Lent (now first) (now second) ⌝ }
+    requires { ⌜ (p ≤ 30758229) × (upper ≤ 30758231) ⌝ }
+    ensures { λ r. ⌜ r ≡ markedOf (wholeOf p) p upper ⌝ }
+{
+    let k = guess(p);
+    match try_index(first, second, k, p, upper) {
+        Trial::Settled => by_b(k, Mark::Settled, p, upper),
+        Trial::Near => by_b(k + 1, Mark::Near, p, upper),
+        _ => mark_of(first, second, search(first, second, p), p, upper),
+    }
+}
+
+// Procedure B for an oil below H. An inner function: the oil is one that the questions and H have been asked about.
+pub fn procedure_b(first: &[u64; 256], second: &[u64; 256], oil: Oil) -> ByB
+    requires lent { ⌜ logarithm.Lent (now first) (now second) ⌝ }
+    requires { ⌜ BelowH oil ⌝ }
+    ensures { λ r. ⌜ r ≡ byB (oil .u) (oil .y) ⌝ }
+{
+    let ly = logarithm::log2_scaled(first, second, oil.y as u64);
+    let lu = logarithm::log2_scaled(first, second, (oil.u as u64) * 10_000_000);
+    let lh = logarithm::log2_scaled(first, second, oil.h);
+    let p = lower_numerator(ly, lu, lh);
+    let upper = upper_numerator(ly, lu, lh, p);
+    index_of(first, second, p, upper)
+}
+
+// ---- the pair
+
+// The answer to a pair, with lent tables: for a caller with many pairs.
+pub fn answer_lent(
+    rows: &[u32; 622],
+    first: &[u64; 256],
+    second: &[u64; 256],
+    u: u32,
+    y: u32,
+) -> Answer
+    requires lent { ⌜ Lent (now rows) (now first) (now second) ⌝ }
+    ensures { λ r. ⌜ r ≡ answerOf u y ⌝ }
+{
+    match decide(rows, u, y) {
+        Decided::Refused(number) => Answer::Refused(number),
+        Decided::A(index) => Answer::A(index),
+        Decided::BelowH(oil) => Answer::B(procedure_b(first, second, oil)),
+    }
+}
+
+// The pair operation: the answer to any two numbers. The tables of logarithms are copied only for an oil below H.
+pub fn answer_pair(u: u32, y: u32) -> Answer
+    ensures value { λ r. ⌜ r ≡ answerOf u y ⌝ }
+    ensures right { λ r. ⌜ RightAnswer u y r ⌝ }
+{
+    let rows = TABLE1;
+    match decide(&rows, u, y) {
+        Decided::Refused(number) => Answer::Refused(number),
+        Decided::A(index) => Answer::A(index),
+        Decided::BelowH(oil) => {
+            let first = logarithm::first_table();
+            let second = logarithm::second_table();
+            Answer::B(procedure_b(&first, &second, oil))
+        }
     }
 }

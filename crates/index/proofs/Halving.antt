@@ -13,8 +13,10 @@ use Rattle.laws.proofs.Powers.{mul-pow, pow-mul, pow-swap, exponents-le}
 use Rattle.logarithm.specs.Scale.{scale, scale-is, width}
 use Rattle.logarithm.specs.Log2.{log2Of}
 use Rattle.logarithm.proofs.Log2.{log2-enclosed}
+use Rattle.index.specs.declared.Mark.the-variants as mark
+use Rattle.index.specs.declared.Trial.the-variants as trial
 use Rattle.index.specs.ProcedureB.{c}
-use Rattle.index.specs.Chosen.{parts, log10, log10000000, showsLeast, searchOf, wholeOf}
+use Rattle.index.specs.Chosen.{parts, log10, log10000000, showsLeast, showsMost, searchOf, wholeOf, made, markedOf, trialOf}
 use Rattle.index.proofs.Constants.{ten, ten-million}
 use Rattle.index.proofs.Gap.{apart, c-range}
 use Rattle.index.proofs.Tests.{true-least, false-least, least-easier}
@@ -50,13 +52,16 @@ log-999950 =
     twice-below scale log10 10 159 (c 999950) 18 (log2Of (c 999950) + width) (ten .below)
     (log2-enclosed (c 999950) (c-range 999950 (omega arith) (omega arith)) .above) (lit≤ tt)
 
+pub hundred-shown : (p : ℕ) → showsLeast p 9950 ≡ true
+hundred-shown p = true-least p 9950 (omega (arith, log-9950))
+
 pub bracket-start : (p : ℕ) → p ≤ 30758229 → Bracket p 100 10000
 bracket-start p h =
     record {
       order = omega arith;
       least = omega arith;
       most = omega arith;
-      shown = true-least p 9950 (omega (arith, log-9950));
+      shown = hundred-shown p;
       not-shown = false-least p 999950 (omega (arith, log-999950, scale-is));
     }
 
@@ -120,3 +125,50 @@ whole p h = search-law 14 p 100 10000 (bracket-start p h) (lit≤ tt)
 -- so whatever finds a k with that bracket finds this one
 pub found : (p k : ℕ) → p ≤ 30758229 → Bracket p k (k + 1) → k ≡ wholeOf p
 found p k h b = omega (arith, only-one p (wholeOf p) k (whole p h) b, only-one p k (wholeOf p) b (whole p h))
+
+-- ---- what trying k shows, where it finds the index
+
+pub record Tried (k p P : ℕ) (most : Bool) : Type 0 where
+  pub bracket : Bracket p k (k + 1)
+  pub marked : showsMost P (100 * k + 50) ≡ most
+
+-- the three tests behind a trial
+settled-tests : (a b d : Bool) → cond a trial.Higher (cond b (cond d trial.Settled trial.Near) trial.Lower) ≡ trial.Settled → (a ≡ false) × (b ≡ true) × (d ≡ true)
+settled-tests true b d e = let z : _≡_ {A = ℕ} 0 1 = cc in absurd (omega arith)
+settled-tests false true true e = (refl, refl, refl)
+settled-tests false true false e = let z : _≡_ {A = ℕ} 0 1 = cc in absurd (omega arith)
+settled-tests false false d e = let z : _≡_ {A = ℕ} 0 1 = cc in absurd (omega arith)
+
+near-tests : (a b d : Bool) → cond a trial.Higher (cond b (cond d trial.Settled trial.Near) trial.Lower) ≡ trial.Near → (a ≡ false) × (b ≡ true) × (d ≡ false)
+near-tests true b d e = let z : _≡_ {A = ℕ} 0 1 = cc in absurd (omega arith)
+near-tests false true true e = let z : _≡_ {A = ℕ} 0 1 = cc in absurd (omega arith)
+near-tests false true false e = (refl, refl, refl)
+near-tests false false d e = let z : _≡_ {A = ℕ} 0 1 = cc in absurd (omega arith)
+
+module _ (k p P : ℕ) (least : 100 ≤ k) (most : k < 10000) where
+  between : showsLeast p (100 * k + 50) ≡ false → showsLeast p (100 * k - 50) ≡ true → Bracket p k (k + 1)
+  between a b =
+      let e : 100 * k + 50 ≡ 100 * (k + 1) - 50 = omega arith in
+      record { order = omega arith; least = least; most = omega arith; shown = b; not-shown = subst (λ (r : ℕ). showsLeast p r ≡ false) e a }
+
+  pub tried-settled : trialOf k p P ≡ trial.Settled → Tried k p P true
+  unfolding trialOf
+  tried-settled e =
+      let t = settled-tests (showsLeast p (100 * k + 50)) (showsLeast p (100 * k - 50)) (showsMost P (100 * k + 50)) e in
+      record { bracket = between (t .0) (t .1); marked = t .2 }
+
+  pub tried-near : trialOf k p P ≡ trial.Near → Tried k p P false
+  unfolding trialOf
+  tried-near e =
+      let t = near-tests (showsLeast p (100 * k + 50)) (showsLeast p (100 * k - 50)) (showsMost P (100 * k + 50)) e in
+      record { bracket = between (t .0) (t .1); marked = t .2 }
+
+-- ---- the mark
+
+pub marked-settled : (k p P : ℕ) → showsMost P (100 * k + 50) ≡ true → markedOf k p P ≡ made k mark.Settled p P
+unfolding markedOf
+marked-settled k p P e = rw e
+
+pub marked-near : (k p P : ℕ) → showsMost P (100 * k + 50) ≡ false → markedOf k p P ≡ made (k + 1) mark.Near p P
+unfolding markedOf
+marked-near k p P e = rw e

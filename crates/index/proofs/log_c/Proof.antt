@@ -1,0 +1,26 @@
+use Rattle.index.proofs.Tests.{log-of-c}
+use Rattle.index.specs.ProcedureB.{c as c′}
+use Rattle.logarithm.specs.Log2.{log2Of}
+use mathlib.Core.Path.{_≡_, _∙_, ap}
+use borrow.Author.Needs.{needs}
+use Rattle.index.proofs.log_c.Statement.{statement}
+use Rattle.index.proofs.log_c.Tie as tie
+use Rattle.index.proofs.log_c.Reads as reads
+use Rattle.index.proofs.log_c.Lts as lts
+use Rattle.index.proofs.c_of.Reads as c-of-reads
+use Rattle.logarithm.proofs.log2_scaled.Reads as log2-scaled-reads
+
+c-of-requires : tie.Need-c-of-requires
+c-of-requires c κs = search needs
+
+log2-scaled-requires : tie.Need-log2-scaled-requires
+log2-scaled-requires c κs = search needs
+
+returns : tie.Need-returns
+returns c =
+    let s = c .before .before in
+    let e : c .log2-scaled .result ≡ log2Of (c′ (s .args .r)) = c .log2-scaled .ensures .value ∙ ap log2Of (c .before .c-of .ensures) in
+    (e, rw e (log-of-c (s .args .r) (s .pre .1 .0) (s .pre .1 .1)))
+
+pub log-c-spec : {M : Type 1} → statement M
+log-c-spec = tie.close (tie.spec c-of-requires log2-scaled-requires returns)

@@ -1,0 +1,38 @@
+use Rattle.index.proofs.Tests.{least-is}
+use Rattle.index.proofs.Halving.{hundred-shown}
+use mathlib.Core.Path.{_≡_, sym, _∙_}
+use Prim.Native.Nat.{_*_, _-_}
+use native.Mathlib.Omega.{arith}
+use borrow.Author.Needs.{needs}
+use Rattle.index.proofs.shown_below.Statement.{statement}
+use Rattle.index.proofs.shown_below.Tie as tie
+use Rattle.index.proofs.shown_below.Reads as reads
+use Rattle.index.proofs.shown_below.Lts as lts
+use Rattle.index.proofs.log_c.Reads as log-c-reads
+use Rattle.index.proofs.shows_least.Reads as shows-least-reads
+
+returns : tie.Need-returns
+returns c =
+    let e : 100 * c .before .args .k - 50 ≡ 9950 = omega arith in
+    rw e (sym (hundred-shown (c .before .args .p)))
+
+mul-log-c : tie.Need-mul-log-c
+mul-log-c c = search needs
+
+sub-log-c : tie.Need-sub-log-c
+sub-log-c c = search needs
+
+log-c-requires : tie.Need-log-c-requires
+log-c-requires c κs = search needs
+
+shows-least-requires : tie.Need-shows-least-requires
+shows-least-requires c κs = search needs
+
+returns-2 : tie.Need-returns-2
+returns-2 c =
+    let s = c .before .before .before in
+    c .shows-least .ensures ∙ least-is (s .args .p) (100 * s .args .k - 50) _ (c .before .log-c .ensures .0)
+
+pub shown-below-spec : {M : Type 1} → statement M
+shown-below-spec =
+    tie.close (tie.spec returns mul-log-c sub-log-c log-c-requires shows-least-requires returns-2)
