@@ -12,3 +12,4 @@ pub mod OilLogarithms
 pub mod OilNumerators
 pub mod Right
 pub mod Order
+pub mod Examples

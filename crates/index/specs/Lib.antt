@@ -4,3 +4,4 @@ pub mod ProcedureB
 pub mod Answer
 pub mod Lent
 pub mod Chosen
+pub mod Examples

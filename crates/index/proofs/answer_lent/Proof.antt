@@ -1,17 +1,15 @@
+-- The answer of the definition, from what was decided.
+-- Assumes nothing.
+use mathlib.Core.Path.{_≡_, sym, _∙_, ap, ap₂}
+use borrow.Author.Needs.{needs}
 use Rattle.index.proofs.Deciding.{finish, oil-below}
 use Rattle.index.specs.Chosen.{byB, finishedOf}
 use Rattle.index.specs.declared.Answer.the-variants as answer
 use Rattle.index.specs.declared.Decided.the-variants as decided
 use mir.Facts.{toZ-ofZ}
 use mir.Syntax.{w32}
-use mathlib.Core.Path.{_≡_, sym, _∙_, ap, ap₂}
-use borrow.Author.Needs.{needs}
 use Rattle.index.proofs.answer_lent.Statement.{statement}
 use Rattle.index.proofs.answer_lent.Tie as tie
-use Rattle.index.proofs.answer_lent.Reads as reads
-use Rattle.index.proofs.answer_lent.Lts as lts
-use Rattle.index.proofs.decide.Reads as decide-reads
-use Rattle.index.proofs.procedure_b.Reads as procedure-b-reads
 
 decide-requires : tie.Need-decide-requires
 decide-requires c κs = search needs

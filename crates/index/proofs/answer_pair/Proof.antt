@@ -1,4 +1,9 @@
+-- The answer of the definition, from what was decided; every such answer is right.
+-- Assumes nothing.
 use Prim.Native.Nat.{ℕ}
+use mathlib.Core.Path.{_≡_, refl, sym, _∙_, ap, subst}
+use borrow.Author.Needs.{needs}
+use Rattle.reference.specs.Table1.{table1}
 use Rattle.index.proofs.Right.{right}
 use Rattle.index.proofs.Deciding.{finish, oil-below}
 use Rattle.index.specs.Chosen.{finishedOf, answerOf}
@@ -6,19 +11,10 @@ use Rattle.index.specs.Answer.{RightAnswer}
 use Rattle.index.specs.declared.Answer.the-variants as answer
 use Rattle.index.specs.declared.Answer.{Answer}
 use Rattle.index.specs.declared.Decided.the-variants as decided
-use Rattle.reference.specs.Table1.{table1}
 use mir.Facts.{toZ-ofZ}
 use mir.Syntax.{w32}
-use mathlib.Core.Path.{_≡_, refl, sym, _∙_, ap, subst}
-use borrow.Author.Needs.{needs}
 use Rattle.index.proofs.answer_pair.Statement.{statement}
 use Rattle.index.proofs.answer_pair.Tie as tie
-use Rattle.index.proofs.answer_pair.Reads as reads
-use Rattle.index.proofs.answer_pair.Lts as lts
-use Rattle.index.proofs.decide.Reads as decide-reads
-use Rattle.index.proofs.procedure_b.Reads as procedure-b-reads
-use Rattle.logarithm.proofs.first_table.Reads as first-table-reads
-use Rattle.logarithm.proofs.second_table.Reads as second-table-reads
 
 -- the answer of the definition is right
 both : (u y : ℕ) (r : Answer) → r ≡ answerOf u y → (r ≡ answerOf u y) × RightAnswer u y r
@@ -46,9 +42,10 @@ second-table-requires c κs = search needs
 procedure-b-requires : tie.Need-procedure-b-requires
 procedure-b-requires c κs =
     let k = c .before .before .before .before .before in
-    let s = k .before .before .before .before in
-    (record { one = c .before .before .before .first-table .ensures; two = c .before .before .second-table .ensures },
-    oil-below (s .args .u) (s .args .y) _ (sym (k .before .before .decide .ensures) ∙ k .oil .given .1) .below)
+    let s = k .before .before .before .before in (
+      record { one = c .before .before .before .first-table .ensures; two = c .before .before .second-table .ensures },
+      oil-below (s .args .u) (s .args .y) _ (sym (k .before .before .decide .ensures) ∙ k .oil .given .1) .below,
+    )
 
 returns : tie.Need-returns
 unfolding finishedOf

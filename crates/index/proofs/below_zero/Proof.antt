@@ -1,16 +1,16 @@
+-- −1 − m: the number fits an i32, and the difference is the negative number of that size.
+-- Assumes nothing.
+use Prim.Native.Nat.{ℕ, zero, suc, _<_}
+use mathlib.Core.Path.{_≡_, _∙_, ap, refl}
+use native.Mathlib.Nat.{zero-add}
+use lib.IntN.{ℤ, pos, negsuc, _-ℤ_}
 use borrow.Author.Needs.{sfits-of}
+use borrow.Author.Needs.{needs}
 use mir.Facts.{toZ-pos, toZ-ofZ}
 use mir.Val.{toZ}
 use mir.Syntax.{w32}
-use lib.IntN.{ℤ, pos, negsuc, _-ℤ_}
-use mathlib.Core.Path.{_≡_, _∙_, ap, refl}
-use Prim.Native.Nat.{ℕ, zero, suc, _<_}
-use native.Mathlib.Nat.{zero-add}
-use borrow.Author.Needs.{needs}
 use Rattle.index.proofs.below_zero.Statement.{statement}
 use Rattle.index.proofs.below_zero.Tie as tie
-use Rattle.index.proofs.below_zero.Reads as reads
-use Rattle.index.proofs.below_zero.Lts as lts
 
 less : (m : ℕ) → negsuc 0 -ℤ pos m ≡ negsuc m
 less zero = refl

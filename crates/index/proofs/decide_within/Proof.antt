@@ -1,26 +1,23 @@
+-- A pair within its limits: each return is a case of the definition, by the tests that led to it.
+-- Assumes nothing.
+use Prim.Native.Nat.{ℕ}
+use mathlib.Core.Path.{_≡_, sym, _∙_, ap, ap₂}
+use native.Mathlib.Omega.{arith}
+use borrow.Author.Needs.{sfits-of}
+use borrow.Author.Needs.{needs}
+use Rattle.reference.proofs.Bounds.{bounds}
 use Rattle.index.proofs.Deciding.{decided-refused, decided-below, decided-a}
 use Rattle.index.proofs.Accepted.{refused-4}
 use Rattle.index.specs.ProcedureA.{inUnits, roundedA, indexA}
 use Rattle.index.specs.declared.Decided.the-variants as decided
-use Rattle.reference.proofs.Bounds.{bounds}
-use borrow.Author.Needs.{sfits-of}
 use mir.Facts.{toZ-ofZ}
-use mathlib.Core.Path.{_≡_, sym, _∙_, ap, ap₂}
-use native.Mathlib.Omega.{arith}
-use Prim.Native.Nat.{ℕ}
-use borrow.Author.Needs.{needs}
 use Rattle.index.proofs.decide_within.Statement.{statement}
 use Rattle.index.proofs.decide_within.Tie as tie
-use Rattle.index.proofs.decide_within.Reads as reads
-use Rattle.index.proofs.decide_within.Lts as lts
-use Rattle.index.proofs.rounded_a.Reads as rounded-a-reads
-use Rattle.reference.proofs.h_at.Reads as h-at-reads
-use Rattle.reference.proofs.l_at.Reads as l-at-reads
 
 returns : tie.Need-returns
 returns c =
     let s = c .before in
-    sym (decided-refused (s .args .u .thousandths) (s .args .y .thousandths) 4 (refused-4 _ _ (s .pre .1 .0) (s .pre .1 .1) (s .pre .1 .2) (c .if1 .taken)) (omega arith))
+    sym (decided-refused (s .args .u .thousandths) (s .args .y .thousandths) 4 (refused-4 _ _ (s .pre .1 .0) (s .pre .1 .1) (s .pre .1 .2) (omega arith)) (omega arith))
 
 h-at-requires : tie.Need-h-at-requires
 h-at-requires c κs = search needs

@@ -1,20 +1,19 @@
+-- A quotient of either sign, rounded down: the two returns are the two signs of the difference.
+-- Assumes nothing.
 use Prim.Native.Nat.{_+_}
-use Rattle.index.proofs.Difference.{sub-pos, sub-neg}
-use Rattle.index.specs.ProcedureA.{floorDiv}
-use borrow.Author.Needs.{sfits-of}
-use mir.Facts.{toZ-pos, toZ-ofZ}
-use mir.Syntax.{w32}
-use lib.IntN.{ℤ, negsuc}
-use mathlib.Core.Path.{sym, _∙_, ap}
 use Prim.Native.Nat.{ℕ, _-_, _*_, _/_, _<_}
+use mathlib.Core.Path.{sym, _∙_, ap}
 use native.Mathlib.Nat.{div-lt-iff-lt-mul, lt-of-le-of-lt, sub-le}
 use native.Mathlib.Omega.{arith}
+use lib.IntN.{ℤ, negsuc}
+use borrow.Author.Needs.{sfits-of}
 use borrow.Author.Needs.{needs}
+use Rattle.index.proofs.Difference.{sub-pos, sub-neg}
+use Rattle.index.specs.ProcedureA.{floorDiv}
+use mir.Facts.{toZ-pos, toZ-ofZ}
+use mir.Syntax.{w32}
 use Rattle.index.proofs.floor_quotient.Statement.{statement}
 use Rattle.index.proofs.floor_quotient.Tie as tie
-use Rattle.index.proofs.floor_quotient.Reads as reads
-use Rattle.index.proofs.floor_quotient.Lts as lts
-use Rattle.index.proofs.below_zero.Reads as below-zero-reads
 
 -- the quotient fits an i32
 small : (x b m : ℕ) → 0 < m → x < 2147483648 * m → (x - b) / m < 2147483648
@@ -30,7 +29,7 @@ div-below-zero : tie.Need-div-below-zero
 div-below-zero c = search needs
 
 below-zero-requires : tie.Need-below-zero-requires
-below-zero-requires c κs = small (c .before .args .b) (c .before .args .a + 1) (c .before .args .m) (c .before .pre .0) (c .before .pre .2)
+below-zero-requires c κs = small (c .before .args .b) _ (c .before .args .m) (c .before .pre .0) (c .before .pre .2)
 
 returns : tie.Need-returns
 returns c =

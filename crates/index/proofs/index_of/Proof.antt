@@ -1,18 +1,13 @@
-use Rattle.index.proofs.Halving.{whole, found, tried-settled, tried-near, marked-settled, marked-near}
-use Rattle.index.specs.Chosen.{markedOf}
-use mathlib.Core.Path.{_≡_, sym, _∙_, ap}
+-- A k that the trial confirms is the one that the search would find; otherwise it is searched.
+-- Assumes nothing.
 use Prim.Native.Nat.{ℕ, _+_, _*_}
+use mathlib.Core.Path.{_≡_, sym, _∙_, ap}
 use native.Mathlib.Omega.{arith}
 use borrow.Author.Needs.{needs}
+use Rattle.index.proofs.Halving.{whole, found, tried-settled, tried-near, marked-settled, marked-near}
+use Rattle.index.specs.Chosen.{markedOf}
 use Rattle.index.proofs.index_of.Statement.{statement}
 use Rattle.index.proofs.index_of.Tie as tie
-use Rattle.index.proofs.index_of.Reads as reads
-use Rattle.index.proofs.index_of.Lts as lts
-use Rattle.index.proofs.by_b.Reads as by-b-reads
-use Rattle.index.proofs.guess.Reads as guess-reads
-use Rattle.index.proofs.mark_of.Reads as mark-of-reads
-use Rattle.index.proofs.search.Reads as search-reads
-use Rattle.index.proofs.try_index.Reads as try-index-reads
 
 guess-requires : tie.Need-guess-requires
 guess-requires c κs = search needs

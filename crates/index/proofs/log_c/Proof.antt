@@ -1,14 +1,12 @@
-use Rattle.index.proofs.Tests.{log-of-c}
-use Rattle.index.specs.ProcedureB.{c as c′}
-use Rattle.logarithm.specs.Log2.{log2Of}
+-- The logarithm of c(r): c is within the range of logarithms, and its logarithm within the bounds of the tests.
+-- Assumes nothing.
 use mathlib.Core.Path.{_≡_, _∙_, ap}
 use borrow.Author.Needs.{needs}
+use Rattle.logarithm.specs.Log2.{log2Of}
+use Rattle.index.proofs.Tests.{log-of-c}
+use Rattle.index.specs.ProcedureB.{c as c′}
 use Rattle.index.proofs.log_c.Statement.{statement}
 use Rattle.index.proofs.log_c.Tie as tie
-use Rattle.index.proofs.log_c.Reads as reads
-use Rattle.index.proofs.log_c.Lts as lts
-use Rattle.index.proofs.c_of.Reads as c-of-reads
-use Rattle.logarithm.proofs.log2_scaled.Reads as log2-scaled-reads
 
 c-of-requires : tie.Need-c-of-requires
 c-of-requires c κs = search needs

@@ -1,11 +1,11 @@
-use Rattle.index.proofs.Numerators.{lower-none}
-use Rattle.index.specs.Chosen.{lowerFrom}
+-- p: the definition's quotient; where the logarithms are too close it is 0.
+-- Assumes nothing.
 use mathlib.Core.Path.{refl, sym}
 use borrow.Author.Needs.{needs}
+use Rattle.index.proofs.Numerators.{lower-none}
+use Rattle.index.specs.Chosen.{lowerFrom}
 use Rattle.index.proofs.lower_numerator.Statement.{statement}
 use Rattle.index.proofs.lower_numerator.Tie as tie
-use Rattle.index.proofs.lower_numerator.Reads as reads
-use Rattle.index.proofs.lower_numerator.Lts as lts
 
 add-if1 : tie.Need-add-if1
 add-if1 c = search needs

@@ -1,16 +1,13 @@
+-- The mark is the definition's, by the test at k + 0.5.
+-- Assumes nothing.
+use Prim.Native.Nat.{_+_, _*_}
+use mathlib.Core.Path.{_≡_, sym, _∙_}
+use borrow.Author.Needs.{needs}
 use Rattle.index.proofs.Halving.{marked-settled, marked-near}
 use Rattle.index.proofs.Tests.{most-is}
 use Rattle.index.specs.Chosen.{showsMost}
-use mathlib.Core.Path.{_≡_, sym, _∙_}
-use Prim.Native.Nat.{_+_, _*_}
-use borrow.Author.Needs.{needs}
 use Rattle.index.proofs.mark_of.Statement.{statement}
 use Rattle.index.proofs.mark_of.Tie as tie
-use Rattle.index.proofs.mark_of.Reads as reads
-use Rattle.index.proofs.mark_of.Lts as lts
-use Rattle.index.proofs.by_b.Reads as by-b-reads
-use Rattle.index.proofs.log_c.Reads as log-c-reads
-use Rattle.index.proofs.shows_most.Reads as shows-most-reads
 
 most : (c : tie.After-shows-most) → c .shows-most .result ≡ showsMost (c .before .before .args .upper) (100 * c .before .before .args .k + 50)
 most c = c .shows-most .ensures ∙ most-is (c .before .before .args .upper) (100 * c .before .before .args .k + 50) _ (c .before .log-c .ensures .0)

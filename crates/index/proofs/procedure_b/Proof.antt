@@ -1,14 +1,10 @@
-use Rattle.index.proofs.OilNumerators.{y-range, U-range, h-range, bounded, lower-fits, upper-fits, by-b-is}
+-- The logarithms and numerators found are those of the pair (proofs/OilNumerators.antt).
+-- Assumes nothing.
 use mathlib.Core.Path.{_∙_}
 use borrow.Author.Needs.{needs}
+use Rattle.index.proofs.OilNumerators.{y-range, U-range, h-range, bounded, lower-fits, upper-fits, by-b-is}
 use Rattle.index.proofs.procedure_b.Statement.{statement}
 use Rattle.index.proofs.procedure_b.Tie as tie
-use Rattle.index.proofs.procedure_b.Reads as reads
-use Rattle.index.proofs.procedure_b.Lts as lts
-use Rattle.index.proofs.index_of.Reads as index-of-reads
-use Rattle.index.proofs.lower_numerator.Reads as lower-numerator-reads
-use Rattle.index.proofs.upper_numerator.Reads as upper-numerator-reads
-use Rattle.logarithm.proofs.log2_scaled.Reads as log2-scaled-reads
 
 cast-log2-scaled : tie.Need-cast-log2-scaled
 cast-log2-scaled c = search needs
@@ -48,10 +44,13 @@ index-of-requires c κs =
     let l = c .before .before in
     let s = l .before .before .before .before .before in
     let p = c .before .lower-numerator .ensures in
-    let P = c .upper-numerator .ensures in
-    (s .pre .0,
-    (lower-fits (s .args .oil) (s .pre .1) _ _ _ (l .before .before .before .log2-scaled .ensures .value) (l .before .log2-scaled2 .ensures .value) (l .log2-scaled3 .ensures .value) _ _ p P,
-    upper-fits (s .args .oil) (s .pre .1) _ _ _ (l .before .before .before .log2-scaled .ensures .value) (l .before .log2-scaled2 .ensures .value) (l .log2-scaled3 .ensures .value) _ _ p P))
+    let P = c .upper-numerator .ensures in (
+      s .pre .0,
+      (
+        lower-fits (s .args .oil) (s .pre .1) _ _ _ (l .before .before .before .log2-scaled .ensures .value) (l .before .log2-scaled2 .ensures .value) (l .log2-scaled3 .ensures .value) _ _ p P,
+        upper-fits (s .args .oil) (s .pre .1) _ _ _ (l .before .before .before .log2-scaled .ensures .value) (l .before .log2-scaled2 .ensures .value) (l .log2-scaled3 .ensures .value) _ _ p P,
+      ),
+    )
 
 returns : tie.Need-returns
 returns c =

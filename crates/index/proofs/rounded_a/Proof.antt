@@ -1,13 +1,12 @@
-use Rattle.index.proofs.ProcedureA.{rounded}
-use borrow.Author.Needs.{sfits-of}
-use mir.Facts.{toZ-ofZ}
+-- The index of procedure A is one difference rounded down (proofs/ProcedureA.antt).
+-- Assumes nothing.
 use mathlib.Core.Path.{sym, _∙_}
+use borrow.Author.Needs.{sfits-of}
 use borrow.Author.Needs.{needs}
+use Rattle.index.proofs.ProcedureA.{rounded}
+use mir.Facts.{toZ-ofZ}
 use Rattle.index.proofs.rounded_a.Statement.{statement}
 use Rattle.index.proofs.rounded_a.Tie as tie
-use Rattle.index.proofs.rounded_a.Reads as reads
-use Rattle.index.proofs.rounded_a.Lts as lts
-use Rattle.index.proofs.floor_quotient.Reads as floor-quotient-reads
 
 sub-gap : tie.Need-sub-gap
 sub-gap c = search needs

@@ -1,14 +1,13 @@
-use mathlib.Core.Path.{subst}
+-- The loop's invariant: at least 100·lo − 50 is shown and at least 100·hi − 50 is not. The measure is hi − lo.
+-- Assumes nothing.
 use Prim.Native.Nat.{ℕ, _+_}
-use Rattle.index.proofs.Halving.{Bracket, bracket-start, bracket-up, bracket-down, found}
-use mathlib.Core.Path.{_≡_, sym, _∙_}
 use Prim.Native.Nat.{_-_}
+use mathlib.Core.Path.{subst}
+use mathlib.Core.Path.{_≡_, sym, _∙_}
 use native.Mathlib.Omega.{arith}
+use Rattle.index.proofs.Halving.{Bracket, bracket-start, bracket-up, bracket-down, found}
 use Rattle.index.proofs.search.Statement.{statement}
 use Rattle.index.proofs.search.Tie as tie
-use Rattle.index.proofs.search.Reads as reads
-use Rattle.index.proofs.search.Lts as lts
-use Rattle.index.proofs.shown_below.Reads as shown-below-reads
 
 abbrev Inv-loop : tie.InvT-loop
 Inv-loop first second p lo₀ hi₀ lo hi = Bracket p lo hi

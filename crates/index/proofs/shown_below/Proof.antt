@@ -1,15 +1,13 @@
-use Rattle.index.proofs.Tests.{least-is}
-use Rattle.index.proofs.Halving.{hundred-shown}
-use mathlib.Core.Path.{_≡_, sym, _∙_}
+-- At 100 the test always passes; elsewhere it is the test of the definition.
+-- Assumes nothing.
 use Prim.Native.Nat.{_*_, _-_}
+use mathlib.Core.Path.{_≡_, sym, _∙_}
 use native.Mathlib.Omega.{arith}
 use borrow.Author.Needs.{needs}
+use Rattle.index.proofs.Tests.{least-is}
+use Rattle.index.proofs.Halving.{hundred-shown}
 use Rattle.index.proofs.shown_below.Statement.{statement}
 use Rattle.index.proofs.shown_below.Tie as tie
-use Rattle.index.proofs.shown_below.Reads as reads
-use Rattle.index.proofs.shown_below.Lts as lts
-use Rattle.index.proofs.log_c.Reads as log-c-reads
-use Rattle.index.proofs.shows_least.Reads as shows-least-reads
 
 returns : tie.Need-returns
 returns c =

@@ -1,13 +1,13 @@
-use Rattle.index.specs.Chosen.{parts, log10, log10000000}
-use Rattle.logarithm.specs.Scale.{width}
+-- The test on differences is the test of the definition.
+-- Assumes nothing.
 use Prim.Native.Nat.{_+_, _*_, _-_}
-use Rattle.laws.proofs.Order.{leb-same}
 use native.Mathlib.Omega.{arith}
 use borrow.Author.Needs.{needs}
+use Rattle.laws.proofs.Order.{leb-same}
+use Rattle.logarithm.specs.Scale.{width}
+use Rattle.index.specs.Chosen.{parts, log10, log10000000}
 use Rattle.index.proofs.shows_least.Statement.{statement}
 use Rattle.index.proofs.shows_least.Tie as tie
-use Rattle.index.proofs.shows_least.Reads as reads
-use Rattle.index.proofs.shows_least.Lts as lts
 
 add-result : tie.Need-add-result
 add-result c = search needs

@@ -1,12 +1,12 @@
-use Rattle.index.specs.Chosen.{parts, log10, log10000000}
+-- The test on differences is the test of the definition.
+-- Assumes nothing.
 use Prim.Native.Nat.{_+_, _*_, _-_}
-use Rattle.laws.proofs.Order.{leb-same}
 use native.Mathlib.Omega.{arith}
 use borrow.Author.Needs.{needs}
+use Rattle.laws.proofs.Order.{leb-same}
+use Rattle.index.specs.Chosen.{parts, log10, log10000000}
 use Rattle.index.proofs.shows_most.Statement.{statement}
 use Rattle.index.proofs.shows_most.Tie as tie
-use Rattle.index.proofs.shows_most.Reads as reads
-use Rattle.index.proofs.shows_most.Lts as lts
 
 add-result : tie.Need-add-result
 add-result c = search needs

@@ -1,10 +1,10 @@
-use native.Mathlib.Nat.{mul-le-mul-left}
+-- A step of the polynomial: f is below 2^24, so the product divided by 2^24 is at most v.
+-- Assumes nothing.
 use Prim.Native.Nat.{_*_, _≤_}
+use native.Mathlib.Nat.{mul-le-mul-left}
 use native.Mathlib.Omega.{arith}
 use Rattle.index.proofs.step.Statement.{statement}
 use Rattle.index.proofs.step.Tie as tie
-use Rattle.index.proofs.step.Reads as reads
-use Rattle.index.proofs.step.Lts as lts
 
 product : (c : tie.Start) → c .args .v * c .args .f ≤ c .args .v * 16777216
 product c = mul-le-mul-left (c .args .v) (omega arith)

@@ -1,16 +1,12 @@
+-- Each return is a case of the definition, by the tests that led to it.
+-- Assumes nothing.
+use Prim.Native.Nat.{_+_, _*_}
+use mathlib.Core.Path.{_≡_, sym, _∙_}
+use borrow.Author.Needs.{needs}
 use Rattle.index.proofs.Tests.{least-is, most-is, trial-higher, trial-lower, trial-settled, trial-near}
 use Rattle.index.specs.Chosen.{showsLeast}
-use mathlib.Core.Path.{_≡_, sym, _∙_}
-use Prim.Native.Nat.{_+_, _*_}
-use borrow.Author.Needs.{needs}
 use Rattle.index.proofs.try_index.Statement.{statement}
 use Rattle.index.proofs.try_index.Tie as tie
-use Rattle.index.proofs.try_index.Reads as reads
-use Rattle.index.proofs.try_index.Lts as lts
-use Rattle.index.proofs.log_c.Reads as log-c-reads
-use Rattle.index.proofs.shown_below.Reads as shown-below-reads
-use Rattle.index.proofs.shows_least.Reads as shows-least-reads
-use Rattle.index.proofs.shows_most.Reads as shows-most-reads
 
 -- the test at k + 0.5
 above : (c : tie.After-shows-least) → c .shows-least .result ≡ showsLeast (c .before .before .args .p) (100 * c .before .before .args .k + 50)

@@ -1,14 +1,14 @@
+-- P: p + 1 or p + 2 by one product, which fits since p times the divisor does.
+-- Assumes nothing.
+use Prim.Native.Nat.{_+_, _*_, _-_, _≤_}
+use native.Mathlib.Omega.{arith}
+use borrow.Author.Tests.{le-leb, lt-leb}
+use borrow.Author.Needs.{needs}
+use Rattle.logarithm.specs.Scale.{scaleNumber}
 use Rattle.index.proofs.Numerators.{lower-small}
 use Rattle.index.specs.Chosen.{parts, log1000, upperFrom}
-use Rattle.logarithm.specs.Scale.{scaleNumber}
-use borrow.Author.Tests.{le-leb, lt-leb}
-use native.Mathlib.Omega.{arith}
-use Prim.Native.Nat.{_+_, _*_, _-_, _≤_}
-use borrow.Author.Needs.{needs}
 use Rattle.index.proofs.upper_numerator.Statement.{statement}
 use Rattle.index.proofs.upper_numerator.Tie as tie
-use Rattle.index.proofs.upper_numerator.Reads as reads
-use Rattle.index.proofs.upper_numerator.Lts as lts
 
 small : (c : tie.Start) → (c .args .p ≤ 7 * parts) × ((c .args .p + 1) * (c .args .ly - (log1000 + 1)) ≤ parts * (7 * scaleNumber) + (c .args .ly - (log1000 + 1)))
 small c = rw (c .pre .1) (lower-small (c .args .ly) (c .args .lu) (c .args .lh) (c .pre .0))

@@ -1,0 +1,23 @@
+-- The starred examples of document 01, computed from the definitions.
+-- Assumes nothing.
+use mathlib.Core.Path.{refl}
+use Rattle.reference.specs.Table1.{table1}
+use Rattle.reference.specs.Basis.{entry, atPlace, L-at, H-at}
+use Rattle.reference.proofs.Examples.{starred-basis}
+use Rattle.index.specs.ProcedureA.{roundedA, indexA}
+use Rattle.index.specs.Chosen.{decidedOf, finishedOf, answerOf}
+use Rattle.index.specs.Examples.{StarredExamples}
+
+pub starred-examples : StarredExamples
+unfolding answerOf finishedOf decidedOf indexA roundedA L-at H-at atPlace entry table1
+starred-examples =
+    record {
+      basis = starred-basis;
+      a-92 = refl;
+      a-87 = refl;
+      a-100 = refl;
+      half = refl;
+      negative-half = refl;
+      thickest = refl;
+      above-70 = refl;
+    }

@@ -1,0 +1,28 @@
+-- Document 01, 'Pairs and sheets to try': all starred examples, gathered into one statement about the definitions.
+-- proofs/Examples.antt shows it by computation.
+-- Assumes nothing.
+use Prim.Native.Nat.{ℕ}
+use mathlib.Core.Path.{_≡_}
+use lib.IntN.{ℤ, pos, negsuc}
+use Rattle.reference.specs.Examples.{StarredBasis}
+use Rattle.index.specs.declared.Answer.the-variants.{A}
+use Rattle.index.specs.Chosen.{answerOf}
+
+-- a negative number is `negsuc n`, which is −(n + 1)
+pub record StarredExamples : Type 0 where
+  -- those about L and H: y 8860, 5050, 70000, 70001
+  pub basis : StarredBasis
+  -- "(73300, 8860): A 92."
+  pub a-92 : answerOf 73300 8860 ≡ A (pos 92)
+  -- "(53470, 7080): A 87."
+  pub a-87 : answerOf 53470 7080 ≡ A (pos 87)
+  -- "(28490, 5000): A 100."
+  pub a-100 : answerOf 28490 5000 ≡ A (pos 100)
+  -- "(7986, 2000): exactly 0.5, A 1."
+  pub half : answerOf 7986 2000 ≡ A (pos 1)
+  -- "(8018, 2000): −1.5, A −1."
+  pub negative-half : answerOf 8018 2000 ≡ A (negsuc 0)
+  -- "(1000000000, 2000): A −62,499,500."
+  pub thickest : answerOf 1000000000 2000 ≡ A (negsuc 62499499)
+  -- "(6188000, 100000): A 50."
+  pub above-70 : answerOf 6188000 100000 ≡ A (pos 50)
