@@ -1,12 +1,12 @@
 -- The order of questions 1 to 4: which number each viscosity gets, and what holds of a pair that passes all of them.
 -- Assumes nothing.
 use Prim.Native.Nat.{ℕ, _<_, _≤_}
-use mathlib.Core.Path.{_≡_, refl}
+use mathlib.Core.Path.{_≡_}
 use native.Mathlib.Omega.{arith}
 use borrow.Author.Tests.{le-leb, lt-leb, lt-ltb, le-ltb}
 use Rattle.laws.proofs.Order.{by-order}
 use Rattle.reference.specs.Viscosity.{least100, greatest100, greatest40}
-use Rattle.index.specs.Questions.{ask, refusal}
+use Rattle.index.specs.Questions.{refusal}
 
 pub record Accepted (u y : ℕ) : Type 0 where
   pub least : least100 ≤ y

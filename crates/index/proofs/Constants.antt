@@ -1,7 +1,7 @@
 -- The logarithms that the code holds as constants, certified: each is at most 1 below the logarithm in units of 1 / E.
 -- Assumes nothing.
 use Prim.Native.Nat.{ℕ, _+_, _*_, _^_, _≤_}
-use mathlib.Core.Path.{_≡_, sym, _∙_, ap}
+use mathlib.Core.Path.{sym, _∙_, ap}
 use native.Mathlib.Nat.{le-of-eq}
 use lib.Dec.{T}
 use Rattle.laws.proofs.Powers.{pow-mul}

@@ -1,9 +1,9 @@
 -- What is decided of a pair before procedure B, case by case, and what the constructors of the two viscosities have to do with it.
 -- Assumes nothing.
-use Prim.Native.Nat.{ℕ, suc, _<_, _≤_}
+use Prim.Native.Nat.{ℕ, _<_, _≤_}
 use mathlib.Core.Path.{_≡_, refl, sym, _∙_, ap, subst}
 use native.Mathlib.Omega.{arith}
-use borrow.Author.Tests.{lt-ltb, le-ltb, eq-eqb, ne-eqb}
+use borrow.Author.Tests.{lt-ltb, le-ltb, ne-eqb}
 use Rattle.laws.proofs.Order.{by-order}
 use Rattle.reference.specs.declared.Asked100.the-variants as at100
 use Rattle.reference.specs.declared.Asked40.the-variants as at40

@@ -1,7 +1,7 @@
 -- What rounding down means: floorDiv z m is the k with k·m ≤ z < (k + 1)·m. So `nearest z d` is the k with k·2d ≤ 2z + d < (k + 1)·2d, which is
 -- k − 1/2 ≤ z / d < k + 1/2. It never falls as z rises.
 -- Assumes nothing.
-use Prim.Native.Nat.{ℕ, zero, suc, _+_, _*_, _-_, _/_, _<_, _≤_}
+use Prim.Native.Nat.{ℕ, zero, suc, _*_, _-_, _/_, _<_, _≤_}
 use mathlib.Core.Path.{_≡_, refl, ap}
 use mathlib.Core.Logic.{⊎-elim}
 use lib.IntN.{ℤ, pos, negsuc, negℤ, sucℤ, _+ℤ_, _*ℤ_}

@@ -2,7 +2,7 @@
 -- least 100·k + 50 is not. Any other way of finding such a k finds the same.
 -- Assumes nothing.
 use Prim.Native.Nat.{ℕ, zero, suc, _+_, _*_, _-_, _/_, _^_, _≤_, _<_}
-use mathlib.Core.Path.{_≡_, refl, sym, _∙_, ap, subst, subst₂}
+use mathlib.Core.Path.{_≡_, refl, sym, _∙_, ap, subst}
 use mathlib.Core.Bool.{Bool, true, false, cond}
 use native.Mathlib.Omega.{arith}
 use native.Mathlib.Nat.{pow-suc, le-trans, le-of-eq, mul-comm, mul-le-mul-right, pow-le-pow-left}
@@ -16,7 +16,7 @@ use Rattle.logarithm.proofs.Log2.{log2-enclosed}
 use Rattle.index.specs.declared.Mark.the-variants as mark
 use Rattle.index.specs.declared.Trial.the-variants as trial
 use Rattle.index.specs.ProcedureB.{c}
-use Rattle.index.specs.Chosen.{parts, log10, log10000000, showsLeast, showsMost, searchOf, wholeOf, made, markedOf, trialOf}
+use Rattle.index.specs.Chosen.{log10, log10000000, showsLeast, showsMost, searchOf, wholeOf, made, markedOf, trialOf}
 use Rattle.index.proofs.Constants.{ten, ten-million}
 use Rattle.index.proofs.Gap.{apart, c-range}
 use Rattle.index.proofs.Tests.{true-least, false-least, least-easier}

@@ -1,16 +1,15 @@
 -- The two numerators from the logarithms of y, U and H: p / Q is at or below N and P / Q at or above it, shown by whole powers; P is p + 1 or
 -- p + 2, and p is at most 11/6 of Q.
 -- Assumes nothing.
-use Prim.Native.Nat.{ℕ, _+_, _*_, _-_, _/_, _^_, _≤_, _<_}
-use mathlib.Core.Path.{_≡_, sym, _∙_, ap, subst}
-use mathlib.Core.Bool.{Bool, true, false, cond}
+use Prim.Native.Nat.{ℕ, _+_, _*_, _-_, _^_, _≤_, _<_}
+use mathlib.Core.Path.{_≡_, sym, ap, subst}
+use mathlib.Core.Bool.{Bool, cond}
 use native.Mathlib.Omega.{arith}
-use native.Mathlib.Nat.{le-trans, le-of-eq, mul-assoc, mul-comm, mul-left-comm, mul-add, add-mul, mul-le-mul, mul-le-mul-left, mul-le-mul-right, le-of-mul-le-mul-right, div-mul-le-self, lt-div-mul-add, zero-div, pow-zero, pow-le-pow-left}
-use lib.Dec.{leb}
+use native.Mathlib.Nat.{mul-le-mul-left, le-of-mul-le-mul-right, div-mul-le-self, lt-div-mul-add, zero-div, pow-zero, pow-le-pow-left}
 use borrow.Author.Tests.{le-leb, lt-leb}
 use Rattle.laws.proofs.Order.{by-order}
 use Rattle.laws.proofs.Powers.{ring}
-use Rattle.logarithm.specs.Scale.{scale, scale-is, scaleNumber, width, bound}
+use Rattle.logarithm.specs.Scale.{scale, scale-is, scaleNumber, width}
 use Rattle.logarithm.specs.Log2.{Enclosed}
 use Rattle.logarithm.proofs.FromLogarithms.{powers-le}
 use Rattle.index.specs.ProcedureB.{Q, Q-is}

@@ -9,7 +9,7 @@ use Rattle.laws.proofs.Powers.{mul-pow, pow-one}
 use Rattle.reference.specs.Basis.{H-at}
 use Rattle.reference.proofs.Bounds.{bounds}
 use Rattle.reference.proofs.Range.{range, ratio}
-use Rattle.logarithm.specs.Scale.{scale, scaleNumber, width, unit}
+use Rattle.logarithm.specs.Scale.{scale, scaleNumber, width}
 use Rattle.logarithm.specs.Log2.{log2Of, InRange, Enclosed}
 use Rattle.logarithm.proofs.Log2.{log2-enclosed}
 use Rattle.logarithm.proofs.Rise.{log2-rises}

@@ -6,7 +6,6 @@ use native.Mathlib.Omega.{arith}
 use Rattle.reference.specs.Basis.{H-at}
 use Rattle.logarithm.specs.Log2.{log2Of, InRange}
 use Rattle.index.specs.declared.Oil.{Oil}
-use Rattle.index.specs.declared.ByB.{ByB}
 use Rattle.index.specs.ProcedureA.{inUnits}
 use Rattle.index.specs.Chosen.{InBounds, lowerFrom, upperFrom, lowerOfPair, upperOfPair, wholeOf, markedOf, byB, BelowH}
 use Rattle.index.proofs.Accepted.{Accepted, accepted}

@@ -1,6 +1,6 @@
 -- At one y the index never rises with u, whatever the marks and whichever procedure gave each: the order that demand 3 asks for, and more.
 -- Assumes nothing.
-use Prim.Native.Nat.{ℕ, _+_, _*_, _-_, _/_, _≤_, _<_}
+use Prim.Native.Nat.{ℕ, _+_, _*_, _-_, _≤_, _<_}
 use mathlib.Core.Path.{_≡_, refl, sym, ap, subst, subst₂}
 use mathlib.Core.Bool.{Bool, true, false, cond}
 use native.Mathlib.Omega.{arith}
@@ -17,14 +17,14 @@ use Rattle.index.specs.declared.Mark.the-variants as mark
 use Rattle.index.specs.declared.ByB.{ByB}
 use Rattle.index.specs.declared.Answer.{Answer}
 use Rattle.index.specs.Questions.{refusal}
-use Rattle.index.specs.ProcedureA.{inUnits, indexA}
+use Rattle.index.specs.ProcedureA.{inUnits}
 use Rattle.index.specs.Answer.{indexOf}
-use Rattle.index.specs.Chosen.{parts, log1000, showsLeast, showsMost, lowerFrom, upperFrom, lowerOfPair, upperOfPair, wholeOf, made, markedOf, byB, answerOf}
+use Rattle.index.specs.Chosen.{parts, log1000, showsMost, lowerFrom, upperFrom, lowerOfPair, upperOfPair, made, markedOf, byB, answerOf}
 use Rattle.index.proofs.Difference.{pos-le, order-joins}
 use Rattle.index.proofs.Floor.{quotient-le}
 use Rattle.index.proofs.ProcedureA.{index-falls, index-most}
 use Rattle.index.proofs.Accepted.{Accepted, accepted}
-use Rattle.index.proofs.Numerators.{Logarithms, Upper, few, upper}
+use Rattle.index.proofs.Numerators.{few}
 use Rattle.index.proofs.Tests.{least-easier, most-easier}
 use Rattle.index.proofs.Halving.{Bracket, whole, clash}
 use Rattle.index.proofs.OilLogarithms.{logarithms}

@@ -1,27 +1,22 @@
 -- Every answer is right: the one proof that document 01's words hold of what the program chooses.
 -- Assumes nothing.
 use Prim.Native.Nat.{ℕ, _+_, _*_, _-_, _^_, _≤_, _<_}
-use mathlib.Core.Path.{_≡_, refl, sym, _∙_, ap, subst}
+use mathlib.Core.Path.{_≡_, refl, sym, ap, subst}
 use mathlib.Core.Bool.{Bool, true, false, cond}
 use native.Mathlib.Omega.{arith}
-use lib.Signed.{_≤ℤ_}
 use Rattle.laws.proofs.Order.{by-order}
 use Rattle.reference.specs.Basis.{H-at}
 use Rattle.logarithm.specs.Log2.{log2Of}
 use Rattle.index.specs.declared.Mark.the-variants as mark
-use Rattle.index.specs.declared.ByB.{ByB}
-use Rattle.index.specs.declared.Decided.{Decided}
-use Rattle.index.specs.declared.Decided.the-variants as decided
-use Rattle.index.specs.declared.Answer.{Answer}
 use Rattle.index.specs.declared.Answer.the-variants as answer
 use Rattle.index.specs.Questions.{refusal}
 use Rattle.index.specs.ProcedureA.{inUnits, indexA}
 use Rattle.index.specs.ProcedureB.{Q, AtLeast, AtMost, SettledAt, NearAt}
 use Rattle.index.specs.Answer.{RightB, RightAnswer}
-use Rattle.index.specs.Chosen.{showsLeast, showsMost, lowerOfPair, upperOfPair, wholeOf, made, markedOf, byB, decidedOf, finishedOf, answerOf}
+use Rattle.index.specs.Chosen.{showsLeast, showsMost, lowerOfPair, upperOfPair, made, markedOf, byB, finishedOf, answerOf}
 use Rattle.index.proofs.Accepted.{Accepted, by-questions, passes}
 use Rattle.index.proofs.Deciding.{decided-refused, decided-below, decided-a}
-use Rattle.index.proofs.Numerators.{Upper, few, lower-shows, upper, upper-shows}
+use Rattle.index.proofs.Numerators.{few, lower-shows, upper, upper-shows}
 use Rattle.index.proofs.Tests.{least-shows, most-shows, beside-least, beside-most}
 use Rattle.index.proofs.Halving.{Bracket, whole}
 use Rattle.index.proofs.OilLogarithms.{logarithms}

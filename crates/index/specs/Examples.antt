@@ -1,9 +1,8 @@
 -- Document 01, 'Pairs and sheets to try': all starred examples, gathered into one statement about the definitions.
 -- proofs/Examples.antt shows it by computation.
 -- Assumes nothing.
-use Prim.Native.Nat.{ℕ}
 use mathlib.Core.Path.{_≡_}
-use lib.IntN.{ℤ, pos, negsuc}
+use lib.IntN.{pos, negsuc}
 use Rattle.reference.specs.Examples.{StarredBasis}
 use Rattle.index.specs.declared.Answer.the-variants.{A}
 use Rattle.index.specs.Chosen.{answerOf}

@@ -1,7 +1,7 @@
 -- A sequence that falls nowhere from one number to the next falls nowhere.
 -- Assumes nothing.
 use Prim.Native.Nat.{ℕ, zero, suc, _+_, _-_, _<_, _≤_}
-use mathlib.Core.Path.{_≡_, sym, ap}
+use mathlib.Core.Path.{_≡_, sym}
 use native.Mathlib.Omega.{arith}
 use native.Mathlib.Nat.{le-refl, le-trans, add-zero, add-suc}
 use native.Mathlib.Numerals.{add-one}

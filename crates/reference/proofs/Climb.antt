@@ -16,7 +16,6 @@ use Rattle.reference.specs.Viscosity.{least100}
 use Rattle.reference.specs.Basis.{rowL, rowH, viscosityOf, lineOf, atPlace, placeOf, L-at, H-at}
 use Rattle.reference.proofs.Places.{Stands, stands}
 use Rattle.reference.proofs.Exact.{at-line}
-use Rattle.reference.proofs.Bounds.{line-apart, line-level}
 use Rattle.reference.proofs.Rise.{table-rises, rows-apart}
 
 step-up : ℕ → Bool

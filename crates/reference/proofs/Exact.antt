@@ -1,7 +1,7 @@
 -- The straight line rounds nothing: with y standing `over` above its row and the next row `spacing` above that row, the value times the
 -- spacing is the sum of the two rows' entries, weighted by the distances to the other row, in units.
 -- Assumes nothing.
-use Prim.Native.Nat.{ℕ, _+_, _*_, _-_, _<_, _≤_}
+use Prim.Native.Nat.{ℕ, _+_, _*_, _-_, _<_}
 use mathlib.Core.Path.{_≡_, _∙_, ap}
 use mathlib.Core.Logic.{⊎-elim}
 use native.Mathlib.Omega.{arith}

@@ -2,14 +2,14 @@
 -- H ≤ 128·y. Each by one test that the checker computes over the rows (H at the next row against the viscosity of this one), and an
 -- easy bound for the quadratic.
 -- Assumes nothing.
-use Prim.Native.Nat.{ℕ, suc, _+_, _*_, _-_, _^_, _<_, _≤_}
-use mathlib.Core.Path.{_≡_, refl, sym, _∙_, ap}
+use Prim.Native.Nat.{ℕ, _+_, _*_, _^_, _<_, _≤_}
+use mathlib.Core.Path.{_≡_, _∙_}
 use mathlib.Core.Bool.{Bool}
 use mathlib.Core.Logic.{⊎-elim}
 use lib.Dec.{T, leb, leb→le, lit≤, lit<}
 use lib.Pow.{pow-add}
 use native.Mathlib.Omega.{arith}
-use native.Mathlib.Nat.{le-trans, le-refl, le-of-eq, mul-le-mul, mul-le-mul-left, mul-le-mul-right, mul-assoc, pow-le-pow-left, eq-zero-or-pos}
+use native.Mathlib.Nat.{le-trans, le-of-eq, mul-le-mul-left, mul-le-mul-right, mul-assoc, pow-le-pow-left, eq-zero-or-pos}
 use borrow.Author.Tests.{le-leb, lt-leb}
 use Rattle.laws.proofs.Computed.{upTo, below}
 use Rattle.laws.proofs.Order.{by-order}

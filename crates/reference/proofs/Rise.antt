@@ -1,16 +1,15 @@
 -- Across Table 1 L, H and L − H rise from each row to the next: one test that the checker computes over the whole table, and the law
 -- from the test to each row. L is above H at every row, since it is at the first.
 -- Assumes nothing.
-use Prim.Native.Nat.{ℕ, zero, suc, _+_, _*_, _-_, _<_, _≤_}
-use mathlib.Core.Path.{_≡_}
+use Prim.Native.Nat.{ℕ, zero, suc, _+_, _-_, _<_, _≤_}
 use mathlib.Core.Bool.{Bool, _&&_}
 use native.Mathlib.Omega.{arith}
 use native.Mathlib.Numerals.{add-one}
-use lib.Dec.{T, ltb, leb, ltb→lt, leb→le}
+use lib.Dec.{T, ltb, ltb→lt, leb→le}
 use Rattle.laws.proofs.Computed.{and-left, and-right, upTo, below}
 use Rattle.reference.specs.Table1.{table1}
 use Rattle.reference.specs.Basis.{entry, rowL, rowH}
-use Rattle.reference.specs.Rise.{RisesFrom, TableRises}
+use Rattle.reference.specs.Rise.{TableRises}
 
 riseL : ℕ → Bool
 riseL i = ltb (rowL i) (rowL (i + 1))

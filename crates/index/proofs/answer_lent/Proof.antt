@@ -1,9 +1,9 @@
 -- The answer of the definition, from what was decided.
 -- Assumes nothing.
-use mathlib.Core.Path.{_≡_, sym, _∙_, ap, ap₂}
+use mathlib.Core.Path.{sym, _∙_, ap}
 use borrow.Author.Needs.{needs}
 use Rattle.index.proofs.Deciding.{finish, oil-below}
-use Rattle.index.specs.Chosen.{byB, finishedOf}
+use Rattle.index.specs.Chosen.{finishedOf}
 use Rattle.index.specs.declared.Answer.the-variants as answer
 use Rattle.index.specs.declared.Decided.the-variants as decided
 use mir.Facts.{toZ-ofZ}

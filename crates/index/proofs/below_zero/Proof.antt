@@ -4,8 +4,7 @@ use Prim.Native.Nat.{ℕ, zero, suc, _<_}
 use mathlib.Core.Path.{_≡_, _∙_, ap, refl}
 use native.Mathlib.Nat.{zero-add}
 use lib.IntN.{ℤ, pos, negsuc, _-ℤ_}
-use borrow.Author.Needs.{sfits-of}
-use borrow.Author.Needs.{needs}
+use borrow.Author.Needs.{sfits-of, needs}
 use mir.Facts.{toZ-pos, toZ-ofZ}
 use mir.Val.{toZ}
 use mir.Syntax.{w32}

@@ -1,11 +1,9 @@
 -- A pair: the constructors ask questions 1 to 3, in the order of the definition.
 -- Assumes nothing.
-use mathlib.Core.Path.{_≡_, sym, _∙_, ap, ap₂}
+use mathlib.Core.Path.{sym, _∙_, ap₂}
 use native.Mathlib.Omega.{arith}
 use borrow.Author.Needs.{needs}
 use Rattle.reference.proofs.Asked.{within100, within40}
-use Rattle.reference.proofs.Kv100.new.Reads as Kv100-new-reads
-use Rattle.reference.proofs.Kv40.new.Reads as Kv40-new-reads
 use Rattle.index.specs.Chosen.{decidedOf}
 use Rattle.index.proofs.Deciding.{refused-at-100, refused-at-40}
 use Rattle.index.proofs.decide.Statement.{statement}

@@ -1,10 +1,9 @@
 -- A pair within its limits: each return is a case of the definition, by the tests that led to it.
 -- Assumes nothing.
 use Prim.Native.Nat.{ℕ}
-use mathlib.Core.Path.{_≡_, sym, _∙_, ap, ap₂}
+use mathlib.Core.Path.{sym, _∙_, ap, ap₂}
 use native.Mathlib.Omega.{arith}
-use borrow.Author.Needs.{sfits-of}
-use borrow.Author.Needs.{needs}
+use borrow.Author.Needs.{sfits-of, needs}
 use Rattle.reference.proofs.Bounds.{bounds}
 use Rattle.index.proofs.Deciding.{decided-refused, decided-below, decided-a}
 use Rattle.index.proofs.Accepted.{refused-4}

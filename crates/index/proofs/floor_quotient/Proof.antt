@@ -1,13 +1,11 @@
 -- A quotient of either sign, rounded down: the two returns are the two signs of the difference.
 -- Assumes nothing.
-use Prim.Native.Nat.{_+_}
 use Prim.Native.Nat.{ℕ, _-_, _*_, _/_, _<_}
 use mathlib.Core.Path.{sym, _∙_, ap}
 use native.Mathlib.Nat.{div-lt-iff-lt-mul, lt-of-le-of-lt, sub-le}
 use native.Mathlib.Omega.{arith}
 use lib.IntN.{ℤ, negsuc}
-use borrow.Author.Needs.{sfits-of}
-use borrow.Author.Needs.{needs}
+use borrow.Author.Needs.{sfits-of, needs}
 use Rattle.index.proofs.Difference.{sub-pos, sub-neg}
 use Rattle.index.specs.ProcedureA.{floorDiv}
 use mir.Facts.{toZ-pos, toZ-ofZ}

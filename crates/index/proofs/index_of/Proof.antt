@@ -1,7 +1,7 @@
 -- A k that the trial confirms is the one that the search would find; otherwise it is searched.
 -- Assumes nothing.
-use Prim.Native.Nat.{ℕ, _+_, _*_}
-use mathlib.Core.Path.{_≡_, sym, _∙_, ap}
+use Prim.Native.Nat.{ℕ}
+use mathlib.Core.Path.{sym, _∙_, ap}
 use native.Mathlib.Omega.{arith}
 use borrow.Author.Needs.{needs}
 use Rattle.index.proofs.Halving.{whole, found, tried-settled, tried-near, marked-settled, marked-near}

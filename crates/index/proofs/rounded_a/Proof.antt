@@ -1,8 +1,7 @@
 -- The index of procedure A is one difference rounded down (proofs/ProcedureA.antt).
 -- Assumes nothing.
 use mathlib.Core.Path.{sym, _∙_}
-use borrow.Author.Needs.{sfits-of}
-use borrow.Author.Needs.{needs}
+use borrow.Author.Needs.{sfits-of, needs}
 use Rattle.index.proofs.ProcedureA.{rounded}
 use mir.Facts.{toZ-ofZ}
 use Rattle.index.proofs.rounded_a.Statement.{statement}

@@ -1,9 +1,7 @@
 -- The loop's invariant: at least 100·lo − 50 is shown and at least 100·hi − 50 is not. The measure is hi − lo.
 -- Assumes nothing.
-use Prim.Native.Nat.{ℕ, _+_}
-use Prim.Native.Nat.{_-_}
-use mathlib.Core.Path.{subst}
-use mathlib.Core.Path.{_≡_, sym, _∙_}
+use Prim.Native.Nat.{ℕ, _+_, _-_}
+use mathlib.Core.Path.{subst, _≡_, sym, _∙_}
 use native.Mathlib.Omega.{arith}
 use Rattle.index.proofs.Halving.{Bracket, bracket-start, bracket-up, bracket-down, found}
 use Rattle.index.proofs.search.Statement.{statement}

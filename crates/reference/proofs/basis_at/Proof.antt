@@ -1,7 +1,7 @@
 -- L and H together are those of the two functions.
 -- Assumes nothing.
 use Prim.Native.Nat.{ℕ}
-use mathlib.Core.Path.{_≡_, ap₂}
+use mathlib.Core.Path.{ap₂}
 use borrow.Author.Needs.{needs}
 use Rattle.reference.proofs.basis_at.Statement.{statement}
 use Rattle.reference.proofs.basis_at.Tie as tie

@@ -1,6 +1,6 @@
 -- The request: the constructor asks the two questions; the copied constant is the table.
 -- Assumes nothing.
-use mathlib.Core.Path.{_≡_, refl, sym, ap, _∙_}
+use mathlib.Core.Path.{refl, sym, ap, _∙_}
 use native.Mathlib.Omega.{arith}
 use borrow.Author.Needs.{needs}
 use Rattle.reference.proofs.Asked.{within100, ofAsked, reference-asked}
