@@ -11,5 +11,6 @@ pub mod Halving
 pub mod OilLogarithms
 pub mod OilNumerators
 pub mod Right
+pub mod Fits
 pub mod Order
 pub mod Examples

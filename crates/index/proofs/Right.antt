@@ -75,7 +75,7 @@ by-b-right u y a l =
 
 -- ---- every pair
 
-finished-refused : (u y n : ℕ) → refusal u y ≡ n → 0 < n → answerOf u y ≡ answer.Refused n
+pub finished-refused : (u y n : ℕ) → refusal u y ≡ n → 0 < n → answerOf u y ≡ answer.Refused n
 unfolding answerOf finishedOf
 finished-refused u y n e p = ap finishedOf (decided-refused u y n e p)
 
