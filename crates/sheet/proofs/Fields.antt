@@ -1,0 +1,121 @@
+-- The fields of a record read back from its bytes, and the records of a sheet after the operation.
+-- Assumes nothing.
+use Prim.Native.Nat.{ℕ, zero, suc, _+_, _*_, _-_, _≤_, _<_, _/_, _%_}
+use mathlib.Core.Path.{_≡_, refl, sym, ap, _∙_}
+use mathlib.Core.List.{List, _++_}
+use native.Mathlib.Nat.{add-assoc}
+use native.Mathlib.Omega.{arith}
+use borrow.Author.Tests.{eq-eqb}
+use lib.ListN.{length, getD, take, drop, length-drop}
+use lib.Seq.{getD-take, getD-drop, drop-append-le, take-append-le, drop-append-add, drop-at, take-all, length-take-le}
+use Rattle.laws.proofs.Order.{by-order}
+use Rattle.index.specs.declared.Answer.{Answer}
+use Rattle.index.specs.Answer.{methodOf, indexOf, lowerOf, upperOf}
+use Rattle.sheet.specs.Bytes.{span32, numberAt, bytesOf, signedOf}
+use Rattle.sheet.specs.Record.{resultSize, headOf, laidOut, recordOf, recordAt, methodAt, indexAt, lowerAt, upperAt}
+use Rattle.sheet.specs.Sheet.{countOf, pairsOf, resultsOf, resultsEnd, answerAt, recordsOf, sheetRefusal, sheetAfter}
+use Rattle.sheet.proofs.Signed.{signed-back, twos-complement-fits}
+use Rattle.sheet.proofs.Questions.{accepted}
+use Rattle.sheet.proofs.Records.{length-record, length-records}
+use mir.Syntax.{w32}
+use mir.Val.{SFits}
+use Rattle.index.proofs.Fits.{Fits}
+
+-- the four bytes of a 32-bit number joined again
+digit : (x : ℕ) → x % 256 + 256 * (x / 256) ≡ x
+digit x = omega arith
+
+last : (x : ℕ) → x < span32 → x / 256 / 256 / 256 % 256 ≡ x / 256 / 256 / 256
+last x h = omega arith
+
+pub joined : (x : ℕ) → x < span32 → x % 256 + 256 * (x / 256 % 256 + 256 * (x / 256 / 256 % 256 + 256 * (x / 256 / 256 / 256 % 256))) ≡ x
+joined x h = rw (last x h, digit (x / 256 / 256), digit (x / 256), digit x)
+
+-- the fields of a record that stands alone
+module _ (number method index lower upper : ℕ) where
+  laid-method : getD (laidOut number method index lower upper) 1 0 ≡ method
+  unfolding laidOut headOf bytesOf
+  laid-method = refl
+
+  laid-index : index < span32 → numberAt (laidOut number method index lower upper) 4 ≡ index
+  unfolding laidOut headOf bytesOf numberAt
+  laid-index h = joined index h
+
+  laid-lower : lower < span32 → numberAt (laidOut number method index lower upper) 8 ≡ lower
+  unfolding laidOut headOf bytesOf numberAt
+  laid-lower h = joined lower h
+
+  laid-upper : upper < span32 → numberAt (laidOut number method index lower upper) 12 ≡ upper
+  unfolding laidOut headOf bytesOf numberAt
+  laid-upper h = joined upper h
+
+-- a byte and a number of a record within a longer list
+part-byte : (l : List ℕ) (at j : ℕ) → j < resultSize → getD l (at + j) 0 ≡ getD (recordAt l at) j 0
+part-byte l at j h = sym (getD-take resultSize (drop at l) j 0 h ∙ getD-drop at l j 0)
+
+part-number : (l : List ℕ) (at j : ℕ) → j + 4 ≤ resultSize → numberAt l (at + j) ≡ numberAt (recordAt l at) j
+unfolding numberAt
+part-number l at j h =
+    rw (
+      add-assoc at j 1,
+      add-assoc at j 2,
+      add-assoc at j 3,
+      part-byte l at j (omega arith),
+      part-byte l at (j + 1) (omega arith),
+      part-byte l at (j + 2) (omega arith),
+      part-byte l at (j + 3) (omega arith),
+    )
+
+-- the fields of the record of an answer, wherever it stands
+module _ (l : List ℕ) (at : ℕ) (a : Answer) (e : recordAt l at ≡ recordOf a) where
+  pub method-read : methodAt l at ≡ methodOf a
+  method-read = part-byte l at 1 (omega arith) ∙ ap (λ (r : List ℕ). getD r 1 0) e ∙ laid-method _ _ _ _ _
+
+  module _ (f : Fits a) where
+    pub index-read : indexAt l at ≡ indexOf a
+    index-read =
+        let small : SFits w32 (indexOf a) = record { sfits = f .index } in
+        ap signedOf (part-number l at 4 (omega arith) ∙ ap (λ (r : List ℕ). numberAt r 4) e ∙ laid-index _ _ _ _ _ (twos-complement-fits _ small))
+        ∙ signed-back _ small
+
+    pub lower-read : lowerAt l at ≡ lowerOf a
+    lower-read = part-number l at 8 (omega arith) ∙ ap (λ (r : List ℕ). numberAt r 8) e ∙ laid-lower _ _ _ _ _ (f .lower)
+
+    pub upper-read : upperAt l at ≡ upperOf a
+    upper-read = part-number l at 12 (omega arith) ∙ ap (λ (r : List ℕ). numberAt r 12) e ∙ laid-upper _ _ _ _ _ (f .upper)
+
+-- record i of the first n
+record-among : (s : List ℕ) (pairs n i : ℕ) → i < n → recordAt (recordsOf s pairs n) (resultSize * i) ≡ recordOf (answerAt s pairs i)
+unfolding recordsOf
+record-among s pairs zero i h = let none : ⊥ = omega arith in absurd none
+record-among s pairs (suc n) i h =
+    let size = length-records s pairs n in
+    let one = length-record (answerAt s pairs n) in
+    by-order i n
+    (λ (l : i < n).
+    ap (take resultSize) (drop-append-le (resultSize * i) (recordsOf s pairs n) (recordOf (answerAt s pairs n)) (omega arith))
+    ∙ take-append-le resultSize (drop (resultSize * i) (recordsOf s pairs n)) (recordOf (answerAt s pairs n)) (rw length-drop (omega arith))
+    ∙ record-among s pairs n i l)
+    (λ (m : n ≤ i).
+    let e : i ≡ n = omega arith in
+    ap (take resultSize) (drop-at (recordsOf s pairs n) (recordOf (answerAt s pairs n)) (resultSize * i) (omega arith))
+    ∙ take-all resultSize (recordOf (answerAt s pairs n)) (omega arith)
+    ∙ ap (λ (k : ℕ). recordOf (answerAt s pairs k)) (sym e))
+
+-- record i of the sheet after the operation
+pub record-found : (s : List ℕ) → sheetRefusal s ≡ 0 → (i : ℕ) → i < countOf s
+    → recordAt (sheetAfter s) (resultsOf s + resultSize * i) ≡ recordOf (answerAt s (pairsOf s) i)
+unfolding sheetAfter
+record-found s q i h =
+    let ro = resultsOf s in
+    let rs = recordsOf s (pairsOf s) (countOf s) in
+    let rest = drop (resultsEnd s) s in
+    let size = length-records s (pairsOf s) (countOf s) in
+    let fits : resultsEnd s ≤ length s = accepted s q .blocks .results-end in
+    let front : length (take ro s) ≡ ro = length-take-le ro s (omega arith) in
+    let past : drop (ro + resultSize * i) (take ro s ++ (rs ++ rest)) ≡ drop (resultSize * i) (rs ++ rest) =
+    rw front at (drop-append-add (take ro s) (rs ++ rest) (resultSize * i)) in
+    rw (eq-eqb _ _ q)
+    (ap (take resultSize) (past ∙ drop-append-le (resultSize * i) rs rest (omega arith))
+    ∙ take-append-le resultSize (drop (resultSize * i) rs) rest (rw length-drop (omega arith))
+    ∙ record-among s (pairsOf s) (countOf s) i h)

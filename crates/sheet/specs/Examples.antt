@@ -1,0 +1,19 @@
+-- Document 01, 'Pairs and sheets to try': the sheets, as one statement. proofs/Examples.antt shows it from the definitions by computation.
+-- "16 bytes with n 0, offsets 16 and 16, total 16: accepted, unchanged. Pair offset 17 there: 14. Only the result offset 17: 15."
+-- Assumes nothing.
+use Prim.Native.Nat.{ℕ}
+use mathlib.Core.Path.{_≡_}
+use mathlib.Core.List.{List, _++_}
+use Rattle.sheet.specs.declared.SheetAnswer.the-variants.{Refused, Accepted}
+use Rattle.sheet.specs.Bytes.{bytesOf}
+use Rattle.sheet.specs.Sheet.{sheetAnswerOf, sheetAfter}
+
+-- a sheet that is a header and nothing else
+abbrev pub headerAlone : ℕ → ℕ → ℕ → ℕ → List ℕ
+headerAlone n pairs results total = bytesOf n ++ (bytesOf pairs ++ (bytesOf results ++ bytesOf total))
+
+pub record TriedSheets : Type 0 where
+  pub accepted : sheetAnswerOf (headerAlone 0 16 16 16) ≡ Accepted 0
+  pub unchanged : sheetAfter (headerAlone 0 16 16 16) ≡ headerAlone 0 16 16 16
+  pub pair-offset : sheetAnswerOf (headerAlone 0 17 16 16) ≡ Refused 14
+  pub result-offset : sheetAnswerOf (headerAlone 0 16 17 16) ≡ Refused 15

@@ -1,0 +1,24 @@
+-- Document 01, 'The two viscosities and what is covered': "In C the pair call takes u, y and a lent record, first asks whether the record is
+-- just 16 bytes (no: 5, record untouched), then fills it as one result of a sheet and answers the pair's number, 0 if answered."
+-- Assumes nothing.
+use Prim.Native.Nat.{ℕ}
+use mathlib.Core.Bool.{Bool, cond}
+use mathlib.Core.List.{List}
+use lib.Dec.{eqb}
+use lib.ListN.{length}
+use Rattle.index.specs.Questions.{ask}
+use Rattle.index.specs.Answer.{numberOf}
+use Rattle.index.specs.Chosen.{answerOf}
+use Rattle.sheet.specs.Record.{resultSize, recordOf}
+
+-- the question about the record
+abbrev pub just16 : List ℕ → Bool
+just16 lent = eqb (length lent) resultSize
+
+-- what the call answers
+unfoldable pub pairNumber : List ℕ → ℕ → ℕ → ℕ
+pairNumber lent u y = ask (just16 lent) 5 (numberOf (answerOf u y))
+
+-- the record afterwards
+unfoldable pub recordAfter : List ℕ → ℕ → ℕ → List ℕ
+recordAfter lent u y = cond (just16 lent) (recordOf (answerOf u y)) lent

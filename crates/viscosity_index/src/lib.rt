@@ -1,0 +1,59 @@
+// What C calls: the pair and the sheet operation on numbers and bytes. The header is include/viscosity_index.h.
+ghost use mathlib.Core.Path.{_≡_};
+ghost use Rattle.index.specs.Answer.{numberOf, RightAnswer};
+ghost use Rattle.index.specs.Chosen.{answerOf};
+ghost use Rattle.sheet.specs.Sheet.{sheetRefusal, sheetAfter, sheetNumberOf};
+ghost use Rattle.sheet.specs.Demand3.{Demand3};
+ghost use Rattle.viscosity_index.specs.PairCall.{pairNumber, recordAfter};
+use index::Answer;
+use sheet::SheetAnswer;
+
+// A record is one result of a sheet.
+const RECORD_SIZE: usize = 16;
+
+// The number of an answer, 0 if the pair is answered.
+fn number_of(answer: Answer) -> u32
+    ensures { λ r. ⌜ r ≡ numberOf answer ⌝ }
+{
+    match answer {
+        Answer::Refused(number) => number as u32,
+        Answer::A(_) => 0,
+        Answer::B(_) => 0,
+    }
+}
+
+// The number of an answer to a sheet, 0 if it is accepted.
+fn number_of_sheet(answer: SheetAnswer) -> u32
+    ensures { λ r. ⌜ r ≡ sheetNumberOf answer ⌝ }
+{
+    match answer {
+        SheetAnswer::Refused(number) => number as u32,
+        SheetAnswer::Accepted(_) => 0,
+    }
+}
+
+// The answer to a pair, as one record. A record that is not 16 bytes is left as it is, and 5 is answered.
+#[no_mangle]
+pub extern "C" fn vi_pair(u: u32, y: u32, record: &mut [u8]) -> u32
+    ensures number { λ r. ⌜ r ≡ pairNumber (now («record» .entry)) u y ⌝ }
+    ensures bytes { λ _. ⌜ now («record» .exit) ≡ recordAfter (now («record» .entry)) u y ⌝ }
+    ensures right { λ _. ⌜ RightAnswer u y (answerOf u y) ⌝ }
+{
+    if record.len() != RECORD_SIZE {
+        return 5;
+    }
+    let answer = index::answer_pair(u, y);
+    sheet::write_result(record, 0, answer);
+    number_of(answer)
+}
+
+// Works a sheet. The count of its pairs stands in its header, so the number is all that is answered.
+#[no_mangle]
+pub extern "C" fn vi_sheet(sheet: &mut [u8]) -> u32
+    ensures number { λ r. ⌜ r ≡ sheetRefusal (now (sheet .entry)) ⌝ }
+    ensures bytes { λ _. ⌜ now (sheet .exit) ≡ sheetAfter (now (sheet .entry)) ⌝ }
+    ensures demand3 { λ _. ⌜ Demand3 (now (sheet .entry)) (now (sheet .exit)) ⌝ }
+{
+    let answer = sheet::work_sheet(sheet);
+    number_of_sheet(answer)
+}

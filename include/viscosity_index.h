@@ -1,0 +1,95 @@
+/*
+ * The viscosity index of ASTM D2270 from an oil's kinematic viscosities at 40 °C (u) and at 100 °C (y), each a whole number of
+ * thousandths of a mm²/s: for one pair, and for a sheet of up to 2,000 pairs.
+ *
+ * What a caller may rely on, for any numbers and any bytes:
+ * - Both functions return, and answer one of the numbers below. There is nothing to test beforehand, to initialise or to free.
+ * - They read and write only the bytes lent to them, remember nothing between calls, and may run at the same time on different buffers.
+ *   A buffer may have any alignment. Where its length is 0, nothing is read through its pointer.
+ * - The same pair always gets the same answer, in a record as in a sheet.
+ * - A refused sheet, and a record that is not 16 bytes, are left as they were, byte for byte. The record of a refused pair is filled as
+ *   any other, with the pair's number and zeros; a refused pair does not stop its sheet.
+ *
+ * Numbers in bytes are least significant first.
+ */
+#ifndef VISCOSITY_INDEX_H
+#define VISCOSITY_INDEX_H
+
+#include <stddef.h>
+#include <stdint.h>
+
+/* The limits of u and y, in thousandths of a mm²/s. */
+#define VI_Y_LEAST 2000u          /* 2 mm²/s */
+#define VI_Y_GREATEST 500000u     /* 500 mm²/s */
+#define VI_U_LEAST 0u             /* but u must be greater than y */
+#define VI_U_GREATEST 1000000000u /* 1,000,000 mm²/s */
+
+/* The number of a pair. The questions are asked in this order; the first that is answered no gives its number. */
+#define VI_ANSWERED 0u       /* every question is answered yes */
+#define VI_Y_BELOW_LEAST 1u  /* Is y at least 2,000? */
+#define VI_Y_ABOVE_MOST 2u   /* Is y at most 500,000? */
+#define VI_U_ABOVE_MOST 3u   /* Is u at most 1,000,000,000? */
+#define VI_U_NOT_ABOVE_Y 4u  /* Is u greater than y? */
+#define VI_RECORD_NOT_16 5u  /* asked first, by vi_pair alone: Is the record just 16 bytes? */
+
+/* The number of a sheet, likewise. Sums are taken as whole numbers and do not wrap. */
+#define VI_ACCEPTED 0u       /* every question is answered yes */
+#define VI_SHEET_SHORT 11u   /* Has the buffer 16 bytes or more? */
+#define VI_SHEET_TOTAL 12u   /* Does the total equal the buffer's length? */
+#define VI_SHEET_COUNT 13u   /* Is n at most 2,000? */
+#define VI_SHEET_PAIRS 14u   /* Does the pair block begin at 16 or later and end (offset + 8n) within the total? */
+#define VI_SHEET_RESULTS 15u /* The same for the result block (offset + 16n)? */
+#define VI_SHEET_SHARED 16u  /* Do the blocks share no byte? */
+
+/* A sheet's header: four 32-bit numbers, at these offsets. The blocks stand in either order, with other bytes between. */
+#define VI_HEADER_SIZE 16u    /* bytes */
+#define VI_HEADER_COUNT 0u    /* n, the count of pairs */
+#define VI_HEADER_PAIRS 4u    /* the offset of the pair block */
+#define VI_HEADER_RESULTS 8u  /* the offset of the result block */
+#define VI_HEADER_TOTAL 12u   /* the total length, in bytes */
+#define VI_MOST_PAIRS 2000u   /* the greatest n */
+
+/* A pair: two 32-bit numbers, at these offsets. Pair i stands at the pair offset + 8i. */
+#define VI_PAIR_SIZE 8u /* bytes */
+#define VI_PAIR_U 0u    /* u */
+#define VI_PAIR_Y 4u    /* y */
+
+/* A record, the result of a pair, by offsets. Record i stands at the result offset + 16i. What does not apply is zero. */
+#define VI_RECORD_SIZE 16u   /* bytes */
+#define VI_RECORD_NUMBER 0u  /* one byte: the pair's number, 0 if it is answered */
+#define VI_RECORD_METHOD 1u  /* one byte: the method; the two bytes after it are zero */
+#define VI_RECORD_INDEX 4u   /* 32 bits with sign, two's complement: the index */
+#define VI_RECORD_LOWER 8u   /* 32 bits: p, by procedure B */
+#define VI_RECORD_UPPER 12u  /* 32 bits: P, by procedure B */
+
+/* The methods. */
+#define VI_METHOD_REFUSED 0u   /* the pair is refused by the question of its number */
+#define VI_METHOD_A 1u         /* u at or above H: the index is 100 (L - U) / (L - H) to the nearest, a half to the greater */
+#define VI_METHOD_B_SETTLED 2u /* u below H: the standard's exact value is from k - 0.5 to k + 0.5, k the index */
+#define VI_METHOD_B_NEAR 3u    /* u below H: it is from k - 0.51 to k - 0.49, too close to a half to say more */
+
+/* p / Q and P / Q enclose the standard's N, whole-number powers of them show what the method says. The index by B is at most 10,000. */
+#define VI_Q 16777216u
+#define VI_INDEX_B_GREATEST 10000
+
+#ifdef __cplusplus
+extern "C" {
+#endif
+
+/*
+ * The answer to one pair. `record` points to `length` bytes. If length is not VI_RECORD_SIZE, answers VI_RECORD_NOT_16 and leaves them as
+ * they are. Otherwise fills the record, all 16 bytes of it, and answers the pair's number, VI_ANSWERED or one of 1 to 4.
+ */
+uint32_t vi_pair(uint32_t u, uint32_t y, uint8_t *record, size_t length);
+
+/*
+ * Works a sheet of `length` bytes. Answers VI_ACCEPTED, and then the result block holds the record of each pair, in the order of the
+ * pairs, and every other byte is as it was; or one of 11 to 16, and then every byte is as it was.
+ */
+uint32_t vi_sheet(uint8_t *sheet, size_t length);
+
+#ifdef __cplusplus
+}
+#endif
+
+#endif

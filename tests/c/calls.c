@@ -1,0 +1,255 @@
+/*
+ * Calls vi_pair and vi_sheet as firmware does: every question's number at its edge, buffers of no length, both orders of the blocks, gaps,
+ * 2,000 pairs, result blocks full of garbage, unaligned buffers. What a sheet should hold after a call is put together here from its bytes
+ * before and from vi_pair's records, and all of it is compared, with the bytes on either side of the buffer.
+ */
+#include "viscosity_index.h"
+
+#include <stdio.h>
+#include <stdlib.h>
+#include <string.h>
+
+enum { GUARD = 64, ROOM = 65536, STEPS = 8 };
+
+static unsigned checks, failures;
+
+static void check(int good, const char *what, unsigned long got, unsigned long wanted)
+{
+    checks++;
+    if (!good) {
+        failures++;
+        fprintf(stderr, "calls: %s: got %lu, wanted %lu\n", what, got, wanted);
+    }
+}
+
+static void put32(uint8_t *at, uint32_t x)
+{
+    for (int i = 0; i < 4; i++)
+        at[i] = (uint8_t)(x >> (8 * i));
+}
+
+static uint32_t get32(const uint8_t *at)
+{
+    return at[0] | (uint32_t)at[1] << 8 | (uint32_t)at[2] << 16 | (uint32_t)at[3] << 24;
+}
+
+static uint32_t seed = 2270;
+
+static uint32_t any(void)
+{
+    seed = seed * 1664525u + 1013904223u;
+    return seed >> 8 ^ seed << 16;
+}
+
+static void fill(uint8_t *at, size_t length)
+{
+    for (size_t i = 0; i < length; i++)
+        at[i] = (uint8_t)any();
+}
+
+/* ---- pairs ---- */
+
+static void pair_is(uint32_t u, uint32_t y, uint32_t number)
+{
+    static const uint8_t zeros[VI_RECORD_SIZE];
+    uint8_t record[VI_RECORD_SIZE];
+    fill(record, sizeof record);
+    const uint32_t got = vi_pair(u, y, record, sizeof record);
+    check(got == number, "the number of a pair", got, number);
+    check(record[VI_RECORD_NUMBER] == number, "byte 0 of a record", record[VI_RECORD_NUMBER], number);
+    check(record[2] == 0 && record[3] == 0, "bytes 2 and 3 of a record", record[2], 0);
+    const uint8_t method = record[VI_RECORD_METHOD];
+    if (number != VI_ANSWERED)
+        check(memcmp(record + 1, zeros, sizeof record - 1) == 0, "the rest of a refused record", 1, 0);
+    else
+        check(method >= VI_METHOD_A && method <= VI_METHOD_B_NEAR, "the method of an answered record", method, VI_METHOD_A);
+    if (method == VI_METHOD_A)
+        check(memcmp(record + VI_RECORD_LOWER, zeros, 8) == 0, "the fractions of a record by A", 1, 0);
+}
+
+static void pair_edges(void)
+{
+    pair_is(3000, 1999, VI_Y_BELOW_LEAST);
+    pair_is(3000, 2000, VI_ANSWERED);
+    pair_is(600000, 500000, VI_ANSWERED);
+    pair_is(600000, 500001, VI_Y_ABOVE_MOST);
+    pair_is(1000000000, 2000, VI_ANSWERED);
+    pair_is(1000000001, 2000, VI_U_ABOVE_MOST);
+    pair_is(2000, 2000, VI_U_NOT_ABOVE_Y);
+    pair_is(2001, 2000, VI_ANSWERED);
+    pair_is(500000, 500000, VI_U_NOT_ABOVE_Y);
+    pair_is(500001, 500000, VI_ANSWERED);
+    /* several questions fail: the first gives its number */
+    pair_is(0, 0, VI_Y_BELOW_LEAST);
+    pair_is(UINT32_MAX, 1999, VI_Y_BELOW_LEAST);
+    pair_is(1000000001, 500001, VI_Y_ABOVE_MOST);
+    pair_is(UINT32_MAX, UINT32_MAX, VI_Y_ABOVE_MOST);
+    pair_is(UINT32_MAX, 500000, VI_U_ABOVE_MOST);
+    pair_is(0, 2000, VI_U_NOT_ABOVE_Y);
+}
+
+/* a record of any other length is left as it was, whatever the pair */
+static void record_lengths(void)
+{
+    static const uint32_t oils[][2] = {{73300, 8860}, {20000, 1999}, {0, UINT32_MAX}};
+    uint8_t room[64], kept[64];
+    for (size_t length = 0; length <= 40; length++)
+        for (size_t i = 0; i < 3 && length != VI_RECORD_SIZE; i++) {
+            fill(room, sizeof room);
+            memcpy(kept, room, sizeof room);
+            const uint32_t got = vi_pair(oils[i][0], oils[i][1], room + 7, length);
+            check(got == VI_RECORD_NOT_16, "a record that is not 16 bytes", got, VI_RECORD_NOT_16);
+            check(memcmp(room, kept, sizeof room) == 0, "a record that is not 16 bytes is kept", 1, 0);
+        }
+    check(vi_pair(73300, 8860, NULL, 0) == VI_RECORD_NOT_16, "no record", 0, VI_RECORD_NOT_16);
+}
+
+/* ---- sheets ---- */
+
+static uint8_t room[GUARD + STEPS + ROOM + GUARD], kept[sizeof room];
+
+static void header(uint8_t *sheet, uint32_t n, uint32_t pairs, uint32_t results, uint32_t total)
+{
+    put32(sheet + VI_HEADER_COUNT, n);
+    put32(sheet + VI_HEADER_PAIRS, pairs);
+    put32(sheet + VI_HEADER_RESULTS, results);
+    put32(sheet + VI_HEADER_TOTAL, total);
+}
+
+/* a header over garbage, in a buffer of `length`: refused by that number, and every byte kept; or accepted */
+static void sheet_is(uint32_t n, uint32_t pairs, uint32_t results, uint32_t total, size_t length, uint32_t number)
+{
+    for (unsigned step = 0; step < STEPS; step++) {
+        uint8_t *sheet = room + GUARD + step;
+        fill(room, sizeof room);
+        header(sheet, n, pairs, results, total);
+        memcpy(kept, room, sizeof room);
+        const uint32_t got = vi_sheet(sheet, length);
+        check(got == number, "the number of a sheet", got, number);
+        if (number != VI_ACCEPTED)
+            check(memcmp(room, kept, sizeof room) == 0, "a refused sheet is kept", 1, 0);
+    }
+}
+
+static void sheet_edges(void)
+{
+    const uint32_t full = 16 + 24 * VI_MOST_PAIRS;
+    for (size_t length = 0; length < VI_HEADER_SIZE; length++)
+        sheet_is(0, 16, 16, (uint32_t)length, length, VI_SHEET_SHORT);
+    check(vi_sheet(NULL, 0) == VI_SHEET_SHORT, "no sheet", 0, VI_SHEET_SHORT);
+    sheet_is(0, 16, 16, 16, 16, VI_ACCEPTED);
+    sheet_is(0, 16, 16, 15, 16, VI_SHEET_TOTAL);
+    sheet_is(0, 16, 16, 17, 16, VI_SHEET_TOTAL);
+    sheet_is(0, 16, 16, UINT32_MAX, 16, VI_SHEET_TOTAL);
+    sheet_is(2000, 16, 16 + 8 * 2000, full, full, VI_ACCEPTED);
+    sheet_is(2001, 16, 16 + 8 * 2001, full + 24, full + 24, VI_SHEET_COUNT);
+    sheet_is(UINT32_MAX, 16, 16, 16, 16, VI_SHEET_COUNT);
+    /* the pair block */
+    sheet_is(1, 15, 24, 40, 40, VI_SHEET_PAIRS);
+    sheet_is(1, 16, 24, 40, 40, VI_ACCEPTED);
+    sheet_is(1, 32, 16, 40, 40, VI_ACCEPTED);
+    sheet_is(1, 33, 16, 40, 40, VI_SHEET_PAIRS);
+    sheet_is(0, 17, 16, 16, 16, VI_SHEET_PAIRS);
+    sheet_is(0, 15, 16, 16, 16, VI_SHEET_PAIRS);
+    sheet_is(1, 0, 24, 40, 40, VI_SHEET_PAIRS);
+    sheet_is(1, UINT32_MAX - 7, 24, 40, 40, VI_SHEET_PAIRS);
+    sheet_is(2000, UINT32_MAX - 15999, 16, 40, 40, VI_SHEET_PAIRS);
+    /* the result block */
+    sheet_is(1, 32, 15, 40, 40, VI_SHEET_RESULTS);
+    sheet_is(1, 16, 25, 40, 40, VI_SHEET_RESULTS);
+    sheet_is(0, 16, 17, 16, 16, VI_SHEET_RESULTS);
+    sheet_is(0, 16, 15, 16, 16, VI_SHEET_RESULTS);
+    sheet_is(1, 16, UINT32_MAX - 15, 40, 40, VI_SHEET_RESULTS);
+    sheet_is(1, 16, UINT32_MAX - 7, 40, 40, VI_SHEET_RESULTS);
+    /* the blocks share a byte, or just do not */
+    sheet_is(1, 16, 23, 64, 64, VI_SHEET_SHARED);
+    sheet_is(1, 16, 24, 64, 64, VI_ACCEPTED);
+    sheet_is(1, 31, 16, 64, 64, VI_SHEET_SHARED);
+    sheet_is(1, 32, 16, 64, 64, VI_ACCEPTED);
+    sheet_is(1, 20, 20, 64, 64, VI_SHEET_SHARED);
+    sheet_is(2, 24, 16, 64, 64, VI_SHEET_SHARED);
+    sheet_is(0, 20, 20, 64, 64, VI_ACCEPTED);
+    sheet_is(0, 64, 64, 64, 64, VI_ACCEPTED);
+    /* several questions fail: the first gives its number */
+    sheet_is(UINT32_MAX, 0, 0, 41, 40, VI_SHEET_TOTAL);
+    sheet_is(2001, 0, 0, 40, 40, VI_SHEET_COUNT);
+    sheet_is(1, 15, 15, 40, 40, VI_SHEET_PAIRS);
+    sheet_is(3, 16, 20, 40, 40, VI_SHEET_RESULTS);
+}
+
+/* works n random pairs in blocks at these offsets; the bytes between are garbage, and so is the result block before the call */
+static void worked(uint32_t n, uint32_t pairs, uint32_t results, uint32_t total, unsigned step)
+{
+    uint8_t *sheet = room + GUARD + step, *wanted = kept + GUARD + step;
+    fill(room, sizeof room);
+    header(sheet, n, pairs, results, total);
+    for (uint32_t i = 0; i < n; i++) {
+        const uint32_t y = any() % 8 ? 2000 + any() % (i % 2 ? 20000 : 498001) : any();
+        const uint32_t u = any() % 8 ? y + any() % (i % 3 ? 20 * (y % 500001) : 1000000000) : any();
+        put32(sheet + pairs + i * VI_PAIR_SIZE + VI_PAIR_U, u);
+        put32(sheet + pairs + i * VI_PAIR_SIZE + VI_PAIR_Y, y);
+    }
+    memcpy(kept, room, sizeof room);
+    for (uint32_t i = 0; i < n; i++) {
+        const uint8_t *pair = sheet + pairs + i * VI_PAIR_SIZE;
+        vi_pair(get32(pair + VI_PAIR_U), get32(pair + VI_PAIR_Y), wanted + results + i * VI_RECORD_SIZE, VI_RECORD_SIZE);
+    }
+    const uint32_t got = vi_sheet(sheet, total);
+    check(got == VI_ACCEPTED, "a sheet of any shape", got, VI_ACCEPTED);
+    check(memcmp(room, kept, sizeof room) == 0, "the records, and every byte outside the result block", n, n);
+}
+
+static void shapes(void)
+{
+    static const uint32_t counts[] = {0, 1, 2, 3, 17, 100, 2000};
+    for (size_t c = 0; c < sizeof counts / sizeof *counts; c++)
+        for (uint32_t before = 0; before <= 5; before++)
+            for (uint32_t between = 0; between <= 9; between += 3) {
+                const uint32_t n = counts[c], first = VI_HEADER_SIZE + before;
+                const uint32_t total = first + 24 * n + between + before;
+                const unsigned step = (before + between) % STEPS;
+                worked(n, first, first + 8 * n + between, total, step);
+                worked(n, first + 16 * n + between, first, total, step);
+            }
+}
+
+/* of equal y the greater u never has the greater index, where neither is near */
+static void order(uint32_t y, uint32_t from, uint32_t stride)
+{
+    uint8_t *sheet = room + GUARD;
+    const uint32_t n = VI_MOST_PAIRS, results = 16 + 8 * n, total = results + 16 * n;
+    header(sheet, n, 16, results, total);
+    for (uint32_t i = 0; i < n; i++) {
+        put32(sheet + 16 + 8 * i, from + stride * i);
+        put32(sheet + 16 + 8 * i + 4, y);
+    }
+    check(vi_sheet(sheet, total) == VI_ACCEPTED, "a sheet of equal y", 1, VI_ACCEPTED);
+    long last = INT32_MAX;
+    for (uint32_t i = 0; i < n; i++) {
+        const uint8_t *record = sheet + results + 16 * i;
+        const long index = (int32_t)get32(record + VI_RECORD_INDEX);
+        if (record[VI_RECORD_METHOD] == VI_METHOD_REFUSED || record[VI_RECORD_METHOD] == VI_METHOD_B_NEAR)
+            continue;
+        check(index <= last, "the index of a thicker oil", (unsigned long)index, (unsigned long)last);
+        last = index;
+    }
+}
+
+int main(void)
+{
+    pair_edges();
+    record_lengths();
+    sheet_edges();
+    shapes();
+    order(2000, 2001, 3);
+    order(5000, 20000, 11);
+    order(70000, 70001, 1999);
+    order(70001, 70002, 1999);
+    order(500000, 500001, 400000);
+    if (failures != 0) {
+        printf("C calls: %u of %u checks failed\n", failures, checks);
+        return 1;
+    }
+    printf("C calls: %u checks of vi_pair and vi_sheet\n", checks);
+    return 0;
+}
