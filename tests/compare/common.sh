@@ -1,0 +1,56 @@
+# Sourced by the test scripts: where things are, and how to build against the
+# library. Everything is built in a temporary folder that goes when the script
+# ends.
+#
+#   VI_ARCHIVE  the archive to test, in place of the repository's own
+#   VI_LIBS     what else the linker needs for it
+
+root=$(cd "$(dirname "${BASH_SOURCE[0]}")/../.." && pwd)
+work=$(mktemp -d)
+trap 'rm -rf "$work"' EXIT
+flags=(-std=gnu11 -Wall -Wextra -Werror -O2)
+name=$(basename "$0" .sh)
+
+die() {
+    echo "$name: FAILED: $*"
+    exit 1
+}
+
+have_headers() {
+    printf '#include <gmp.h>\n#include <mpfr.h>\n' | gcc -E - >/dev/null 2>&1 ||
+        die "GMP and MPFR are missing (Debian: libgmp-dev libmpfr-dev)"
+}
+
+# Leaves the archive's path in $archive, built if it is not there.
+find_archive() {
+    archive=${VI_ARCHIVE:-$root/target/staticlib/libviscosity_index.a}
+    if [ -z "${VI_ARCHIVE:-}" ] && [ ! -f "$archive" ]; then
+        (cd "$root" && rt staticlib viscosity_index) || die "rt staticlib viscosity_index"
+    fi
+    [ -f "$archive" ] || die "no archive at $archive"
+}
+
+# build PROGRAM WORDS...: sources, -I and -D, and the linker's words.
+build() {
+    local program=$1
+    shift
+    gcc "${flags[@]}" "$@" -o "$work/$program" ${VI_LIBS:-} -lmpfr -lgmp -lm || die "building $program"
+}
+
+# The comparison's parts but for its main program, compiled once.
+compile_parts() {
+    local part
+    parts=()
+    for part in harness pairs sheets oil; do
+        gcc "${flags[@]}" -c "$root/tests/compare/$part.c" -o "$work/$part.o" || die "compiling $part.c"
+        parts+=("$work/$part.o")
+    done
+}
+
+# build_compare PROGRAM WORDS...: the comparison, linked with the library.
+build_compare() {
+    local program=$1
+    shift
+    [ -n "${parts:-}" ] || compile_parts
+    build "$program" "$root/tests/compare/compare.c" "${parts[@]}" "$@" "$archive"
+}

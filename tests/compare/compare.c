@@ -1,0 +1,72 @@
+/* Compares the library, through its two C calls, with the implementation of
+   document 01 in oil.c and the model of a sheet in sheets.c.
+
+     compare [--pairs N] [--sheets M] [--seed S]
+
+   Ends at the first difference with exit code 1 and a line that names it. */
+#include "compare.h"
+
+#include <inttypes.h>
+#include <stdio.h>
+#include <stdlib.h>
+#include <string.h>
+#include <time.h>
+
+/* ---- the run ---- */
+
+static uint64_t option(int argc, char **argv, const char *name, uint64_t otherwise)
+{
+    for (int i = 1; i + 1 < argc; i += 2)
+        if (strcmp(argv[i], name) == 0)
+            return strtoull(argv[i + 1], NULL, 10);
+    return otherwise;
+}
+
+static bool options_known(int argc, char **argv)
+{
+    static const char *const names[] = { "--pairs", "--sheets", "--seed" };
+    if (argc % 2 == 0)
+        return false;
+    for (int i = 1; i < argc; i += 2) {
+        bool known = false;
+        for (int j = 0; j < 3; j++)
+            known = known || strcmp(argv[i], names[j]) == 0;
+        if (!known)
+            return false;
+    }
+    return true;
+}
+
+static void print_tally(void)
+{
+    printf("pairs %" PRIu64 ": A %" PRIu64 ", B settled %" PRIu64 ", B near %" PRIu64 ", refused by question",
+        tally.pairs, tally.a, tally.settled, tally.near);
+    for (int i = 1; i <= 4; i++)
+        printf(" %d: %" PRIu64 "%s", i, tally.refused[i], i < 4 ? "," : "\n");
+    printf("index from %" PRId64 " to %" PRId64 "; widest P - p %" PRIu32 "\n",
+        tally.index_least, tally.index_greatest, tally.widest);
+    printf("sheets %" PRIu64 ": accepted %" PRIu64 " with %" PRIu64 " records, refused by question",
+        tally.sheets, tally.accepted, tally.records);
+    for (int i = 11; i <= 16; i++)
+        printf(" %d: %" PRIu64 "%s", i, tally.sheet_refused[i], i < 16 ? "," : "\n");
+}
+
+int main(int argc, char **argv)
+{
+    if (!options_known(argc, argv)) {
+        fprintf(stderr, "usage: compare [--pairs N] [--sheets M] [--seed S]\n");
+        return 2;
+    }
+    setvbuf(stdout, NULL, _IOLBF, 0);
+    uint64_t pairs = option(argc, argv, "--pairs", 7000000);
+    uint64_t sheets = option(argc, argv, "--sheets", 100000);
+    uint64_t seed = option(argc, argv, "--seed", 1);
+    begin(seed);
+    time_t start = time(NULL);
+    compare_pairs(pairs);
+    compare_sheets(sheets);
+    print_tally();
+    printf("compare: passed: %" PRIu64 " pairs and %" PRIu64 " sheets agree, seed %" PRIu64 ", %ld s\n",
+        tally.pairs, tally.sheets, seed, (long)(time(NULL) - start));
+    return 0;
+}
