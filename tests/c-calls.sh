@@ -5,6 +5,6 @@ cd "$(dirname "$0")/.."
 work=$(mktemp -d)
 trap 'rm -rf "$work"' EXIT
 
-rt staticlib viscosity_index >"$work/archive.log" 2>&1 || { tail -n 5 "$work/archive.log"; exit 1; }
-gcc -std=c99 -Wall -Wextra -Werror -O1 -g -fsanitize=address,undefined -Iinclude tests/c/calls.c target/staticlib/libviscosity_index.a -o "$work/calls"
+. tests/archive.bash
+gcc -std=c99 -Wall -Wextra -Werror -O1 -g -fsanitize=address,undefined -Iinclude tests/c/calls.c "$archive" -o "$work/calls"
 "$work/calls"

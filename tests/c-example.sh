@@ -5,10 +5,10 @@ cd "$(dirname "$0")/.."
 work=$(mktemp -d)
 trap 'rm -rf "$work"' EXIT
 
-rt staticlib viscosity_index >"$work/archive.log" 2>&1 || { tail -n 5 "$work/archive.log"; exit 1; }
+. tests/archive.bash
 flags=(-Wall -Wextra -Werror -O2 -Iinclude)
-gcc -std=c99 "${flags[@]}" samples/c/example.c target/staticlib/libviscosity_index.a -o "$work/c"
-g++ -x c++ "${flags[@]}" samples/c/example.c -x none target/staticlib/libviscosity_index.a -o "$work/c++"
+gcc -std=c99 "${flags[@]}" samples/c/example.c "$archive" -o "$work/c"
+g++ -x c++ "${flags[@]}" samples/c/example.c -x none "$archive" -o "$work/c++"
 for program in c c++; do
     "$work/$program" | diff - samples/c/example.stdout
 done

@@ -185,7 +185,7 @@ static void worked(uint32_t n, uint32_t pairs, uint32_t results, uint32_t total,
     header(sheet, n, pairs, results, total);
     for (uint32_t i = 0; i < n; i++) {
         const uint32_t y = any() % 8 ? 2000 + any() % (i % 2 ? 20000 : 498001) : any();
-        const uint32_t u = any() % 8 ? y + any() % (i % 3 ? 20 * (y % 500001) : 1000000000) : any();
+        const uint32_t u = any() % 8 ? y + any() % (i % 3 ? 1 + 20 * (y % 500001) : 1000000000) : any();
         put32(sheet + pairs + i * VI_PAIR_SIZE + VI_PAIR_U, u);
         put32(sheet + pairs + i * VI_PAIR_SIZE + VI_PAIR_Y, y);
     }

@@ -21,13 +21,9 @@ have_headers() {
         die "GMP and MPFR are missing (Debian: libgmp-dev libmpfr-dev)"
 }
 
-# Leaves the archive's path in $archive, built if it is not there.
+# Leaves the archive's path in $archive.
 find_archive() {
-    archive=${VI_ARCHIVE:-$root/target/staticlib/libviscosity_index.a}
-    if [ -z "${VI_ARCHIVE:-}" ] && [ ! -f "$archive" ]; then
-        (cd "$root" && rt staticlib viscosity_index) || die "rt staticlib viscosity_index"
-    fi
-    [ -f "$archive" ] || die "no archive at $archive"
+    . "$root/tests/archive.bash"
 }
 
 # build PROGRAM WORDS...: sources, -I and -D, and the linker's words.
