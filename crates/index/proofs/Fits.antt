@@ -1,11 +1,11 @@
 -- The numbers of an answer fit 32 bits: the index with its sign, p and P.
 -- Assumes nothing.
-use Prim.Native.Nat.{ℕ, _+_, _*_, _-_, _/_, _≤_, _<_}
+use Prim.Native.Nat.{ℕ, _+_, _*_, _-_, _/_, _<_}
 use mathlib.Core.Path.{_≡_, refl, sym, subst}
 use mathlib.Core.Bool.{Bool, true, false, cond}
 use native.Mathlib.Omega.{arith}
 use native.Mathlib.Nat.{div-lt-iff-lt-mul, lt-of-le-of-lt, sub-le}
-use lib.IntN.{ℤ, pos, negsuc, subℕ}
+use lib.IntN.{subℕ}
 use lib.Signed.{mag}
 use Rattle.laws.proofs.Order.{by-order}
 use Rattle.reference.specs.Basis.{L-at, H-at}
@@ -14,7 +14,7 @@ use Rattle.logarithm.specs.Log2.{log2Of}
 use Rattle.index.specs.declared.Mark.the-variants as mark
 use Rattle.index.specs.declared.Answer.{Answer}
 use Rattle.index.specs.declared.Answer.the-variants as answer
-use Rattle.index.specs.ProcedureA.{inUnits, floorDiv, roundedA, indexA}
+use Rattle.index.specs.ProcedureA.{inUnits, floorDiv, indexA}
 use Rattle.index.specs.Answer.{indexOf, lowerOf, upperOf}
 use Rattle.index.specs.Chosen.{lowerFrom, upperFrom, lowerOfPair, upperOfPair, showsMost, wholeOf, made, markedOf, byB, answerOf}
 use Rattle.index.proofs.Difference.{sub-pos, sub-neg}

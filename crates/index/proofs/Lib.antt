@@ -14,3 +14,4 @@ pub mod Right
 pub mod Fits
 pub mod Order
 pub mod Examples
+pub mod Thresholds

@@ -1,13 +1,13 @@
 -- The logarithms and numerators that the code finds for an oil below H are those of the definitions.
 -- Assumes nothing.
-use Prim.Native.Nat.{ℕ, _≤_, _<_}
+use Prim.Native.Nat.{ℕ, _<_}
 use mathlib.Core.Path.{_≡_, sym, _∙_, ap, ap₂, subst}
 use native.Mathlib.Omega.{arith}
 use Rattle.reference.specs.Basis.{H-at}
 use Rattle.logarithm.specs.Log2.{log2Of, InRange}
 use Rattle.index.specs.declared.Oil.{Oil}
 use Rattle.index.specs.ProcedureA.{inUnits}
-use Rattle.index.specs.Chosen.{InBounds, lowerFrom, upperFrom, lowerOfPair, upperOfPair, wholeOf, markedOf, byB, BelowH}
+use Rattle.index.specs.Chosen.{InBounds, lowerFrom, upperFrom, lowerOfPair, upperOfPair, wholeOf, markedOf, byB, Found, BelowH}
 use Rattle.index.proofs.Accepted.{Accepted, accepted}
 use Rattle.index.proofs.Numerators.{Logarithms, in-bounds, few, upper}
 use Rattle.index.proofs.OilLogarithms as logarithms
@@ -39,15 +39,6 @@ module _ (oil : Oil) (b : BelowH oil) where
     bounded = in-bounds _ _ _ _ _ _ found
 
     module _ (p P : ℕ) (ep : p ≡ lowerFrom ly lU lH) (eP : P ≡ upperFrom ly lU lH p) where
-      pub lower-fits : p ≤ 30758229
-      lower-fits = rw ep (few _ _ _ _ _ _ found)
-
-      pub upper-fits : P ≤ 30758231
-      upper-fits =
-          let same : P ≡ upperFrom ly lU lH (lowerFrom ly lU lH) = eP ∙ ap (upperFrom ly lU lH) ep in
-          let v = upper _ _ _ _ _ _ found in
-          omega (arith, v .most, few _ _ _ _ _ _ found)
-
       lower-is : p ≡ lowerOfPair (oil .u) (oil .y)
       unfolding lowerOfPair
       lower-is = ep ∙ rw (ey, eU, eH′)
@@ -56,6 +47,20 @@ module _ (oil : Oil) (b : BelowH oil) where
       unfolding upperOfPair
       upper-is = eP ∙ rw (lower-is, ey, eU, eH′)
 
-      pub by-b-is : markedOf (wholeOf p) p P ≡ byB (oil .u) (oil .y)
-      unfolding byB
-      by-b-is = ap₂ (λ (p : ℕ) (P : ℕ). markedOf (wholeOf p) p P) lower-is upper-is
+      pub pair-found : Found (oil .u) (oil .y) p P
+      pair-found =
+          let same : P ≡ upperFrom ly lU lH (lowerFrom ly lU lH) = eP ∙ ap (upperFrom ly lU lH) ep in
+          let f = few _ _ _ _ _ _ found in
+          let v = upper _ _ _ _ _ _ found in
+          record {
+            lower-is = lower-is;
+            upper-is = upper-is;
+            lower-fits = omega (arith, f);
+            order = omega (arith, v .more);
+            upper-fits = omega (arith, v .most, f);
+          }
+
+-- the index of the p and P found is the pair's
+pub by-b-is : (u y p P : ℕ) → Found u y p P → markedOf (wholeOf p) p P ≡ byB u y
+unfolding byB
+by-b-is u y p P f = ap₂ (λ (p : ℕ) (P : ℕ). markedOf (wholeOf p) p P) (f .lower-is) (f .upper-is)

@@ -100,6 +100,14 @@ lowerOfPair u y = lowerFrom (log2Of y) (log2Of (inUnits u)) (log2Of (H-at y))
 unfoldable pub upperOfPair : ℕ → ℕ → ℕ
 upperOfPair u y = upperFrom (log2Of y) (log2Of (inUnits u)) (log2Of (H-at y)) (lowerOfPair u y)
 
+-- what the code finds for a pair: its p and P, which fit their fields
+pub record Found (u y p P : ℕ) : Type 0 where
+  pub lower-is : p ≡ lowerOfPair u y
+  pub upper-is : P ≡ upperOfPair u y
+  pub lower-fits : p ≤ 30758229
+  pub order : p < P
+  pub upper-fits : P ≤ 30758231
+
 unfoldable pub byB : ℕ → ℕ → ByB
 byB u y = markedOf (wholeOf (lowerOfPair u y)) (lowerOfPair u y) (upperOfPair u y)
 

@@ -9,7 +9,7 @@
 // The functions that calculate are lent the tables; `answer_pair` copies those that it needs, and a caller with many pairs copies them once and
 // calls `answer_lent`.
 ghost use mathlib.Core.Path.{_≡_};
-ghost use mathlib.Core.Bool.{Bool};
+ghost use mathlib.Core.Bool.{true};
 ghost use Prim.Native.Nat.{_<_, _≤_, _+_, _*_, _-_, _/_};
 ghost use lib.Dec.{leb};
 ghost use lib.IntN.{pos, negsuc, subℕ};
@@ -22,12 +22,15 @@ ghost use Rattle.index.specs.ProcedureA.{floorDiv, roundedA};
 ghost use Rattle.index.specs.ProcedureB.{c};
 ghost use Rattle.index.specs.Answer.{RightAnswer};
 ghost use Rattle.index.specs.Lent.{Lent};
-ghost use Rattle.index.specs.Chosen.{parts, log10, log1000, log10000000, InBounds, LogOfC, lowerFrom, upperFrom, showsLeast, showsMost, wholeOf, made, markedOf, trialOf, byB, BelowH, decidedOf, answerOf};
+ghost use Rattle.index.specs.Thresholds.{thresholds as thresholdList};
+ghost use Rattle.index.specs.Chosen.{parts, log10, log1000, log10000000, InBounds, LogOfC, lowerFrom, upperFrom, showsLeast, showsMost, wholeOf, made, markedOf, trialOf, byB, Found, BelowH, decidedOf, answerOf};
 use reference::Asked40;
 use reference::Asked100;
 use reference::Kv40;
 use reference::Kv100;
 use reference::table1::TABLE1;
+
+pub mod threshold_table;
 
 // How sure an index of procedure B is: document 01's terms "settled" and "near".
 pub enum Mark {
@@ -343,18 +346,93 @@ fn index_of(first: &[u64; 256], second: &[u64; 256], p: u64, upper: u64) -> ByB
     }
 }
 
-// Procedure B for an oil below H. An inner function: the oil is one that the questions and H have been asked about.
-pub fn procedure_b(first: &[u64; 256], second: &[u64; 256], oil: Oil) -> ByB
+// A number of 32 bits as one of 64. A parameter is known to fit its type, which a read through a lent array is not.
+fn wide(x: u32) -> u64
+    ensures { λ r. ⌜ r ≡ x ⌝ }
+{
+    x as u64
+}
+
+// Do two entries of the table of thresholds tell that k is settled? They do for most oils up to an index of 355; a no says nothing.
+fn settled_by_thresholds(thresholds: &[u32; 257], k: u64, p: u64, upper: u64) -> bool
+    requires lent { ⌜ now thresholds ≡ thresholdList ⌝ }
+    requires { ⌜ (100 ≤ k) × (p < upper) × (upper ≤ 30758231) ⌝ }
+    ensures { λ b. ⌜ (b ≡ true → trialOf k p upper ≡ Trial.Settled) ⌝ }
+{
+    if 355 < k {
+        return false;
+    }
+    let i = (k - 100) as usize;
+    if p < wide(thresholds[i]) {
+        return false;
+    }
+    upper + 2 <= wide(thresholds[i + 1])
+}
+
+// The index of p and P, by the table of thresholds where it tells.
+fn index_by_thresholds(
+    first: &[u64; 256],
+    second: &[u64; 256],
+    thresholds: &[u32; 257],
+    p: u64,
+    upper: u64,
+) -> ByB
+    requires lent { ⌜ logarithm.Lent (now first) (now second) ⌝ }
+    requires halves { ⌜ now thresholds ≡ thresholdList ⌝ }
+    requires { ⌜ (p ≤ 30758229) × (p < upper) × (upper ≤ 30758231) ⌝ }
+    ensures { λ r. ⌜ r ≡ markedOf (wholeOf p) p upper ⌝ }
+{
+    let k = guess(p);
+    if settled_by_thresholds(thresholds, k, p, upper) {
+        return by_b(k, Mark::Settled, p, upper);
+    }
+    index_of(first, second, p, upper)
+}
+
+// The two fractions of an oil, as their numerators over Q.
+struct Fractions {
+    lower: u64,
+    upper: u64,
+}
+
+// p and P of an oil below H.
+fn fractions_of(first: &[u64; 256], second: &[u64; 256], oil: Oil) -> Fractions
     requires lent { ⌜ logarithm.Lent (now first) (now second) ⌝ }
     requires { ⌜ BelowH oil ⌝ }
-    ensures { λ r. ⌜ r ≡ byB (oil .u) (oil .y) ⌝ }
+    ensures { λ r. ⌜ Found (oil .u) (oil .y) (r .lower) (r .upper) ⌝ }
 {
     let ly = logarithm::log2_scaled(first, second, oil.y as u64);
     let lu = logarithm::log2_scaled(first, second, (oil.u as u64) * 10_000_000);
     let lh = logarithm::log2_scaled(first, second, oil.h);
-    let p = lower_numerator(ly, lu, lh);
-    let upper = upper_numerator(ly, lu, lh, p);
-    index_of(first, second, p, upper)
+    let lower = lower_numerator(ly, lu, lh);
+    let upper = upper_numerator(ly, lu, lh, lower);
+    Fractions { lower, upper }
+}
+
+// Procedure B for an oil below H, without the table of thresholds: for one pair it costs more to copy than it saves.
+fn procedure_b(first: &[u64; 256], second: &[u64; 256], oil: Oil) -> ByB
+    requires lent { ⌜ logarithm.Lent (now first) (now second) ⌝ }
+    requires { ⌜ BelowH oil ⌝ }
+    ensures { λ r. ⌜ r ≡ byB (oil .u) (oil .y) ⌝ }
+{
+    let n = fractions_of(first, second, oil);
+    index_of(first, second, n.lower, n.upper)
+}
+
+// Procedure B for an oil below H, with it.
+fn procedure_b_lent(
+    first: &[u64; 256],
+    second: &[u64; 256],
+    thresholds: &[u32; 257],
+    oil: Oil,
+) -> ByB
+    requires lent { ⌜ logarithm.Lent (now first) (now second) ⌝ }
+    requires halves { ⌜ now thresholds ≡ thresholdList ⌝ }
+    requires { ⌜ BelowH oil ⌝ }
+    ensures { λ r. ⌜ r ≡ byB (oil .u) (oil .y) ⌝ }
+{
+    let n = fractions_of(first, second, oil);
+    index_by_thresholds(first, second, thresholds, n.lower, n.upper)
 }
 
 // ---- the pair
@@ -364,16 +442,17 @@ pub fn answer_lent(
     rows: &[u32; 622],
     first: &[u64; 256],
     second: &[u64; 256],
+    thresholds: &[u32; 257],
     u: u32,
     y: u32,
 ) -> Answer
-    requires lent { ⌜ Lent (now rows) (now first) (now second) ⌝ }
+    requires lent { ⌜ Lent (now rows) (now first) (now second) (now thresholds) ⌝ }
     ensures { λ r. ⌜ r ≡ answerOf u y ⌝ }
 {
     match decide(rows, u, y) {
         Decided::Refused(number) => Answer::Refused(number),
         Decided::A(index) => Answer::A(index),
-        Decided::BelowH(oil) => Answer::B(procedure_b(first, second, oil)),
+        Decided::BelowH(oil) => Answer::B(procedure_b_lent(first, second, thresholds, oil)),
     }
 }
 

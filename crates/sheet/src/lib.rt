@@ -11,6 +11,7 @@ ghost use Rattle.sheet.specs.Demand3.{Demand3};
 ghost use Rattle.sheet.specs.Inner.{PairWithin, BlocksWithin};
 use index::Answer;
 use index::Mark;
+use index::threshold_table::THRESHOLDS;
 use reference::table1::TABLE1;
 
 // The answer to a sheet: refused by the question of that number, or accepted with its count of pairs.
@@ -239,19 +240,20 @@ fn work_pair(
     rows: &[u32; 622],
     first: &[u64; 256],
     second: &[u64; 256],
+    thresholds: &[u32; 257],
     sheet: &mut [u8],
     pairs: usize,
     results: usize,
     i: usize,
 )
-    requires lent { ⌜ Lent (now rows) (now first) (now second) ⌝ }
+    requires lent { ⌜ Lent (now rows) (now first) (now second) (now thresholds) ⌝ }
     requires { ⌜ PairWithin (length (now sheet)) pairs results i ⌝ }
     ensures { λ _. ⌜ now (sheet .exit) ≡ stored (now (sheet .entry)) (results + resultSize * i) (recordOf (answerAt (now (sheet .entry)) pairs i)) ⌝ }
 {
     let pair = pairs + PAIR_SIZE * i;
     let u = number_at(sheet, pair);
     let y = number_at(sheet, pair + Y_AT);
-    let answer = index::answer_lent(rows, first, second, u, y);
+    let answer = index::answer_lent(rows, first, second, thresholds, u, y);
     write_result(&mut sheet[results..], i, answer);
 }
 
@@ -260,18 +262,19 @@ fn work_pairs(
     rows: &[u32; 622],
     first: &[u64; 256],
     second: &[u64; 256],
+    thresholds: &[u32; 257],
     sheet: &mut [u8],
     n: usize,
     pairs: usize,
     results: usize,
 )
-    requires lent { ⌜ Lent (now rows) (now first) (now second) ⌝ }
+    requires lent { ⌜ Lent (now rows) (now first) (now second) (now thresholds) ⌝ }
     requires { ⌜ BlocksWithin (length (now sheet)) n pairs results ⌝ }
     ensures { λ _. ⌜ now (sheet .exit) ≡ stored (now (sheet .entry)) results (recordsOf (now (sheet .entry)) pairs n) ⌝ }
 {
     let mut i: usize = 0;
     while i < n {
-        work_pair(rows, first, second, sheet, pairs, results, i);
+        work_pair(rows, first, second, thresholds, sheet, pairs, results, i);
         i += 1;
     }
 }
@@ -284,7 +287,17 @@ fn work_with_tables(sheet: &mut [u8], n: usize, pairs: usize, results: usize)
     let rows = TABLE1;
     let first = logarithm::first_table();
     let second = logarithm::second_table();
-    work_pairs(&rows, &first, &second, sheet, n, pairs, results);
+    let thresholds = THRESHOLDS;
+    work_pairs(
+        &rows,
+        &first,
+        &second,
+        &thresholds,
+        sheet,
+        n,
+        pairs,
+        results,
+    );
 }
 
 // The sheet operation: any bytes of any length.

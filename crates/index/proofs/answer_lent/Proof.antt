@@ -23,11 +23,11 @@ enum-known-index c = search needs
 enum-known-oil : tie.Need-enum-known-oil
 enum-known-oil c = search needs
 
-procedure-b-requires : tie.Need-procedure-b-requires
-procedure-b-requires c κs =
+procedure-b-lent-requires : tie.Need-procedure-b-lent-requires
+procedure-b-lent-requires c κs =
     let k = c .before in
     let s = k .before .before .before in
-    (s .pre .logarithms, oil-below (s .args .u) (s .args .y) _ (sym (k .before .before .decide .ensures) ∙ k .oil .given .1) .below)
+    (s .pre .logarithms, (s .pre .halves-are, oil-below (s .args .u) (s .args .y) _ (sym (k .before .before .decide .ensures) ∙ k .oil .given .1) .below))
 
 returns : tie.Need-returns
 unfolding finishedOf
@@ -50,7 +50,7 @@ returns-3 c =
     let k = c .before .before in
     let s = k .before .before .before in
     let e = sym (k .before .before .decide .ensures) ∙ k .oil .given .1 in
-    ap answer.B (c .procedure-b .ensures) ∙ finish (s .args .u) (s .args .y) (decided.BelowH _) e
+    ap answer.B (c .procedure-b-lent .ensures) ∙ finish (s .args .u) (s .args .y) (decided.BelowH _) e
 
 pub answer-lent-spec : {M : Type 1} → statement M
 answer-lent-spec =
@@ -60,7 +60,7 @@ answer-lent-spec =
     enum-known-number
     enum-known-index
     enum-known-oil
-    procedure-b-requires
+    procedure-b-lent-requires
     returns
     returns-2
     returns-3)

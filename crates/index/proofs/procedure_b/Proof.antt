@@ -1,75 +1,19 @@
--- The logarithms and numerators found are those of the pair (proofs/OilNumerators.antt).
+-- The index of the p and P found is the pair's.
 -- Assumes nothing.
 use mathlib.Core.Path.{_∙_}
 use borrow.Author.Needs.{needs}
-use Rattle.index.proofs.OilNumerators.{y-range, U-range, h-range, bounded, lower-fits, upper-fits, by-b-is}
+use Rattle.index.proofs.OilNumerators.{by-b-is}
 use Rattle.index.proofs.procedure_b.Statement.{statement}
 use Rattle.index.proofs.procedure_b.Tie as tie
 
-cast-log2-scaled : tie.Need-cast-log2-scaled
-cast-log2-scaled c = search needs
-
-log2-scaled-requires : tie.Need-log2-scaled-requires
-log2-scaled-requires c κs = (c .before .pre .0, y-range (c .before .args .oil) (c .before .pre .1))
-
-cast-log2-scaled-2 : tie.Need-cast-log2-scaled-2
-cast-log2-scaled-2 c = search needs
-
-mul-log2-scaled : tie.Need-mul-log2-scaled
-mul-log2-scaled c = search needs
-
-log2-scaled-requires-2 : tie.Need-log2-scaled-requires-2
-log2-scaled-requires-2 c κs =
-    let s = c .before .before .before in
-    (s .pre .0, U-range (s .args .oil) (s .pre .1))
-
-log2-scaled-requires-3 : tie.Need-log2-scaled-requires-3
-log2-scaled-requires-3 c κs =
-    let s = c .before .before .before .before in
-    (s .pre .0, h-range (s .args .oil) (s .pre .1))
-
-lower-numerator-requires : tie.Need-lower-numerator-requires
-lower-numerator-requires c κs =
-    let s = c .before .before .before .before .before in
-    bounded (s .args .oil) (s .pre .1) _ _ _ (c .before .before .before .log2-scaled .ensures .value) (c .before .log2-scaled2 .ensures .value) (c .log2-scaled3 .ensures .value)
-
-upper-numerator-requires : tie.Need-upper-numerator-requires
-upper-numerator-requires c κs =
-    let l = c .before in
-    let s = l .before .before .before .before .before in
-    (bounded (s .args .oil) (s .pre .1) _ _ _ (l .before .before .before .log2-scaled .ensures .value) (l .before .log2-scaled2 .ensures .value) (l .log2-scaled3 .ensures .value), c .lower-numerator .ensures)
+fractions-of-requires : tie.Need-fractions-of-requires
+fractions-of-requires c κs = search needs
 
 index-of-requires : tie.Need-index-of-requires
-index-of-requires c κs =
-    let l = c .before .before in
-    let s = l .before .before .before .before .before in
-    let p = c .before .lower-numerator .ensures in
-    let P = c .upper-numerator .ensures in (
-      s .pre .0,
-      (
-        lower-fits (s .args .oil) (s .pre .1) _ _ _ (l .before .before .before .log2-scaled .ensures .value) (l .before .log2-scaled2 .ensures .value) (l .log2-scaled3 .ensures .value) _ _ p P,
-        upper-fits (s .args .oil) (s .pre .1) _ _ _ (l .before .before .before .log2-scaled .ensures .value) (l .before .log2-scaled2 .ensures .value) (l .log2-scaled3 .ensures .value) _ _ p P,
-      ),
-    )
+index-of-requires c κs = search needs
 
 returns : tie.Need-returns
-returns c =
-    let l = c .before .before .before in
-    let s = l .before .before .before .before .before in
-    c .index-of .ensures
-    ∙ by-b-is (s .args .oil) (s .pre .1) _ _ _ (l .before .before .before .log2-scaled .ensures .value) (l .before .log2-scaled2 .ensures .value) (l .log2-scaled3 .ensures .value) _ _ (c .before .before .lower-numerator .ensures) (c .before .upper-numerator .ensures)
+returns c = c .index-of .ensures ∙ by-b-is _ _ _ _ (c .before .fractions-of .ensures)
 
 pub procedure-b-spec : {M : Type 1} → statement M
-procedure-b-spec =
-    tie.close
-    (tie.spec
-    cast-log2-scaled
-    log2-scaled-requires
-    cast-log2-scaled-2
-    mul-log2-scaled
-    log2-scaled-requires-2
-    log2-scaled-requires-3
-    lower-numerator-requires
-    upper-numerator-requires
-    index-of-requires
-    returns)
+procedure-b-spec = tie.close (tie.spec fractions-of-requires index-of-requires returns)

@@ -13,10 +13,10 @@ use Rattle.sheet.proofs.work_pairs.Statement.{statement}
 use Rattle.sheet.proofs.work_pairs.Tie as tie
 
 abbrev Inv-loop : tie.InvT-loop
-Inv-loop rows first second sheet₀ n pairs results i₀ sheet i = (i ≤ n) × (sheet ≡ stored sheet₀ results (recordsOf sheet₀ pairs i))
+Inv-loop rows first second thresholds sheet₀ n pairs results i₀ sheet i = (i ≤ n) × (sheet ≡ stored sheet₀ results (recordsOf sheet₀ pairs i))
 
 abbrev μ-loop : tie.MeasureT-loop
-μ-loop rows first second sheet₀ n pairs results i₀ sheet i = n - i
+μ-loop rows first second thresholds sheet₀ n pairs results i₀ sheet i = n - i
 
 kept : (c : tie.At-loop Inv-loop μ-loop) → length (c .loop .sheet) ≡ length (c .before .before .args .sheet .now)
 kept c = ap length (c .loop .inv .1) ∙ length-stored _ _ _

@@ -1,8 +1,9 @@
--- The copied constant and the copied tables are those that the pair's work asks for. The only place that says so.
+-- The copied constants and the copied tables are those that the pair's work asks for. The only place that says so.
 -- Assumes nothing.
 use mathlib.Core.Path.{refl}
 use borrow.Author.Needs.{needs}
 use Rattle.reference.specs.Table1.{table1}
+use Rattle.index.specs.Thresholds.{thresholds}
 use Rattle.sheet.proofs.work_with_tables.Statement.{statement}
 use Rattle.sheet.proofs.work_with_tables.Tie as tie
 
@@ -13,10 +14,16 @@ second-table-requires : tie.Need-second-table-requires
 second-table-requires c κs = search needs
 
 work-pairs-requires : tie.Need-work-pairs-requires
-unfolding table1
+unfolding table1 thresholds
 work-pairs-requires c κs =
-    let at-second = c .before .before .before .before in
-    (record { rows-are = refl; logarithms = record { one = at-second .before .first-table .ensures; two = at-second .second-table .ensures } }, search needs)
+    let at-second = c .before .before .before .before .before in (
+      record {
+        rows-are = refl;
+        logarithms = record { one = at-second .before .first-table .ensures; two = at-second .second-table .ensures };
+        halves-are = refl;
+      },
+      search needs,
+    )
 
 same-length : tie.Need-same-length
 same-length c = search needs
