@@ -33,6 +33,10 @@ count)
         done
     done
     ;;
-size) size "$archive" ;;
+size)
+    size "$archive"
+    gcc -std=gnu11 -Wall -Wextra -Werror -O2 -I"$root/include" "$root/bench/stack.c" "$archive" -o "$work/stack"
+    "$work/stack"
+    ;;
 *) sed -n '2,6p' "$0" >&2; exit 2 ;;
 esac
