@@ -1,0 +1,55 @@
+-- The word, a space, the count, the line's end.
+-- Assumes nothing.
+use native.Mathlib.Omega.{arith}
+use borrow.Author.Needs.{needs}
+use Rattle.report.specs.Text.{firstLine}
+use Rattle.report.proofs.Puts.{put-then, put-within}
+use Rattle.report.proofs.Digits.{digits-of-count}
+use Rattle.report.proofs.put_first_line.Statement.{statement}
+use Rattle.report.proofs.put_first_line.Tie as tie
+
+slice-aggregate-put-word : tie.Need-slice-aggregate-put-word
+slice-aggregate-put-word c = search needs
+
+put-word-requires : tie.Need-put-word-requires
+put-word-requires c κs = search needs
+
+put-byte-requires : tie.Need-put-byte-requires
+put-byte-requires c κs = search needs
+
+put-decimal-requires : tie.Need-put-decimal-requires
+put-decimal-requires c κs =
+    let start = c .before .before .before .before .before .before .before .before .before .before .before in
+    omega (arith, digits-of-count (start .args .n) (start .pre .1))
+
+put-byte-requires-2 : tie.Need-put-byte-requires-2
+put-byte-requires-2 c κs =
+    let start = c .before .before .before .before .before .before .before .before .before .before .before .before .before .before .before in
+    omega (arith, digits-of-count (start .args .n) (start .pre .1))
+
+same-length : tie.Need-same-length
+same-length c = search needs
+
+returns : tie.Need-returns
+unfolding firstLine
+returns c =
+    let end = c .before .before in
+    let digits = end .before .before .before .before in
+    let space = digits .before .before .before .before in
+    let word = space .before .before .before .before in
+    let start = word .before .before .before .before in
+    put-within
+    (put-then (word .put-word .ensures) (put-then (space .put-byte .ensures) (put-then (digits .put-decimal .ensures) (end .put-byte2 .ensures))))
+    (omega (arith, digits-of-count (start .args .n) (start .pre .1)))
+
+pub put-first-line-spec : {M : Type 1} → statement M
+put-first-line-spec =
+    tie.close
+    (tie.spec
+    slice-aggregate-put-word
+    put-word-requires
+    put-byte-requires
+    put-decimal-requires
+    put-byte-requires-2
+    same-length
+    returns)
