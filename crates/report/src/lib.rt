@@ -1,5 +1,5 @@
 // The text of a sheet: which bytes are printed for it. Each inner function puts its text into a lent buffer at a place, and answers the place
-// after it.
+// after it; a local is named after what is put at that place.
 ghost use mathlib.Core.Path.{_≡_};
 ghost use mathlib.Core.List.{[], _∷_, _++_};
 ghost use Prim.Native.Nat.{_+_, _*_, _≤_};
@@ -8,7 +8,7 @@ ghost use Rattle.sheet.specs.Bytes.{signedOf};
 ghost use Rattle.sheet.specs.Record.{resultSize};
 ghost use Rattle.sheet.specs.Sheet.{mostPairs, pairsOf, resultsOf};
 ghost use Rattle.sheet.specs.Inner.{PairWithin, BlocksWithin};
-ghost use Rattle.report.specs.Text.{ascii, digit, decimal, viscosity, signed, firstLine, refusedLine, printed, textAfter, inputAfter};
+ghost use Rattle.report.specs.Text.{ascii, space, lineEnd, digit, decimal, viscosity, signed, firstLine, refusedLine, printed, textAfter, inputAfter};
 ghost use Rattle.report.specs.Inner.{Put, viscosityWidth, indexWidth, outcomeWidth, lineWidth, firstLineWidth, textWidth, refusedLineWidth, outcomeBy, outcomeAt, lineAt, linesAt, Readable};
 use sheet::SheetAnswer;
 
@@ -28,8 +28,6 @@ const POINT: u8 = b'.';
 const MINUS: u8 = b'-';
 
 const ZERO: u32 = 48;
-
-const LINE_END: u8 = 10;
 
 // The least 32-bit number that stands for one below zero, in two's complement.
 const FIRST_NEGATIVE: u32 = 0x8000_0000;
@@ -76,6 +74,14 @@ fn put_word(to: &mut [u8], at: usize, word: &[u8]) -> usize
         i += 1;
     }
     at + i
+}
+
+// The line's end, byte 10.
+fn put_line_end(to: &mut [u8], at: usize) -> usize
+    requires { ⌜ at + 1 ≤ length (now to) ⌝ }
+    ensures { λ r. ⌜ Put 1 (now (to .entry)) at lineEnd (now (to .exit)) r ⌝ }
+{
+    put_word(to, at, b"\n")
 }
 
 // The last decimal digit of n.
@@ -126,7 +132,7 @@ fn put_index(to: &mut [u8], at: usize, bits: u32) -> usize
 fn put_answered(to: &mut [u8], at: usize, word: &[u8], bits: u32) -> usize
     requires { ⌜ length (now word) ≤ 2 ⌝ }
     requires { ⌜ at + outcomeWidth ≤ length (now to) ⌝ }
-    ensures { λ r. ⌜ Put outcomeWidth (now (to .entry)) at (now (word .entry) ++ (ascii " " ++ signed (signedOf bits))) (now (to .exit)) r ⌝ }
+    ensures { λ r. ⌜ Put outcomeWidth (now (to .entry)) at (now (word .entry) ++ (space ++ signed (signedOf bits))) (now (to .exit)) r ⌝ }
 {
     let space = put_word(to, at, word);
     let index = put_byte(to, space, SPACE);
@@ -136,7 +142,7 @@ fn put_answered(to: &mut [u8], at: usize, word: &[u8], bits: u32) -> usize
 // "refused" and the number of a refused pair.
 fn put_refused(to: &mut [u8], at: usize, number: u8) -> usize
     requires { ⌜ at + outcomeWidth ≤ length (now to) ⌝ }
-    ensures { λ r. ⌜ Put outcomeWidth (now (to .entry)) at (ascii "refused" ++ (ascii " " ++ decimal number)) (now (to .exit)) r ⌝ }
+    ensures { λ r. ⌜ Put outcomeWidth (now (to .entry)) at (ascii "refused" ++ (space ++ decimal number)) (now (to .exit)) r ⌝ }
 {
     let space = put_word(to, at, b"refused");
     let digits = put_byte(to, space, SPACE);
@@ -184,7 +190,7 @@ fn put_line(to: &mut [u8], at: usize, sheet: &[u8], pairs: usize, results: usize
     let third = put_viscosity(to, second, y);
     let fourth = put_byte(to, third, SPACE);
     let end = put_outcome_at(to, fourth, sheet, results + RESULT_SIZE * i);
-    put_byte(to, end, LINE_END)
+    put_line_end(to, end)
 }
 
 // The lines of n pairs.
@@ -217,7 +223,7 @@ fn put_first_line(to: &mut [u8], n: u32) -> usize
     let space = put_word(to, 0, b"pairs");
     let digits = put_byte(to, space, SPACE);
     let end = put_decimal(to, digits, n);
-    put_byte(to, end, LINE_END)
+    put_line_end(to, end)
 }
 
 // "sheet refused" and its number.
@@ -228,7 +234,7 @@ fn put_sheet_refused(to: &mut [u8], number: u8) -> usize
     let space = put_word(to, 0, b"sheet refused");
     let digits = put_byte(to, space, SPACE);
     let end = put_decimal(to, digits, number as u32);
-    put_byte(to, end, LINE_END)
+    put_line_end(to, end)
 }
 
 // The text of a worked sheet of n pairs.

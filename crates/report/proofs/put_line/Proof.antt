@@ -43,8 +43,8 @@ add-put-outcome-at c = search needs
 put-outcome-at-requires : tie.Need-put-outcome-at-requires
 put-outcome-at-requires c κs = search needs
 
-put-byte-requires-3 : tie.Need-put-byte-requires-3
-put-byte-requires-3 c κs = search needs
+put-line-end-requires : tie.Need-put-line-end-requires
+put-line-end-requires c κs = search needs
 
 same-length : tie.Need-same-length
 same-length c = search needs
@@ -64,7 +64,7 @@ returns c =
     (put-then (first .put-viscosity .ensures)
     (put-then (second .put-byte .ensures)
     (put-then (third .put-viscosity2 .ensures)
-    (put-then (fourth .put-byte2 .ensures) (put-then (outcome .put-outcome-at .ensures) (end .put-byte3 .ensures))))))
+    (put-then (fourth .put-byte2 .ensures) (put-then (outcome .put-outcome-at .ensures) (end .put-line-end .ensures))))))
 
 pub put-line-spec : {M : Type 1} → statement M
 put-line-spec =
@@ -82,6 +82,6 @@ put-line-spec =
     mul-put-outcome-at
     add-put-outcome-at
     put-outcome-at-requires
-    put-byte-requires-3
+    put-line-end-requires
     same-length
     returns)

@@ -22,8 +22,8 @@ put-decimal-requires c κs =
     let start = c .before .before .before .before .before .before .before .before .before .before .before in
     omega (arith, digits-of-byte (start .args .number) (start .fits .number .fits))
 
-put-byte-requires-2 : tie.Need-put-byte-requires-2
-put-byte-requires-2 c κs =
+put-line-end-requires : tie.Need-put-line-end-requires
+put-line-end-requires c κs =
     let start = c .before .before .before .before .before .before .before .before .before .before .before .before .before .before .before in
     omega (arith, digits-of-byte (start .args .number) (start .fits .number .fits))
 
@@ -39,7 +39,7 @@ returns c =
     let word = space .before .before .before .before in
     let start = word .before .before .before .before in
     put-within
-    (put-then (word .put-word .ensures) (put-then (space .put-byte .ensures) (put-then (digits .put-decimal .ensures) (end .put-byte2 .ensures))))
+    (put-then (word .put-word .ensures) (put-then (space .put-byte .ensures) (put-then (digits .put-decimal .ensures) (end .put-line-end .ensures))))
     (omega (arith, digits-of-byte (start .args .number) (start .fits .number .fits)))
 
 pub put-sheet-refused-spec : {M : Type 1} → statement M
@@ -50,6 +50,6 @@ put-sheet-refused-spec =
     put-word-requires
     put-byte-requires
     put-decimal-requires
-    put-byte-requires-2
+    put-line-end-requires
     same-length
     returns)
