@@ -49,7 +49,8 @@ returns-2 c =
     let at-if = sign .before .before in
     let start = at-if .before .before in
     put-as (below-zero _ (at-if .if1 .left) (start .fits .bits .fits))
-    (put-within (put-then (sign .put-byte .ensures) (digits .put-decimal2 .ensures)) (omega (arith, digits-of-32-bits (4294967295 - start .args .bits + 1) (omega (arith, at-if .if1 .left)))))
+    (put-within (put-then (sign .put-byte .ensures) (digits .put-decimal2 .ensures))
+    (omega (arith, digits-of-32-bits (4294967295 - start .args .bits + 1) (omega (arith, at-if .if1 .left)))))
 
 pub put-index-spec : {M : Type 1} → statement M
 put-index-spec =

@@ -25,7 +25,7 @@ put-line-requires c κs =
     let head = turn .before in
     let start = head .before .before .before in
     let same = put-length (head .loop .inv .1) in
-    (omega (arith, start .pre .0), pair-within _ (start .pre .1) (turn .loop-test .taken))
+    (omega (arith, start .pre .0), pair-within _ (start .pre .1) (omega arith))
 
 add-i : tie.Need-add-i Inv-loop μ-loop
 add-i c = search needs

@@ -28,7 +28,10 @@ put-lines-requires c κs =
     let results = first-line .before .before in
     let pairs = results .before in
     let start = pairs .before .before .before in
-    (omega (arith, first-line .put-first-line .ensures .past, first-line .put-first-line .ensures .short, start .pre .0, start .pre .1 .few), blocks-at _ _ _ (pairs .number-at .ensures) (results .number-at2 .ensures) (start .pre .1 .blocks))
+    let put = first-line .put-first-line .ensures in (
+      omega (arith, put .past, put .short, start .pre .0, start .pre .1 .few),
+      blocks-at _ _ _ (pairs .number-at .ensures) (results .number-at2 .ensures) (start .pre .1 .blocks),
+    )
 
 same-length : tie.Need-same-length
 same-length c = search needs

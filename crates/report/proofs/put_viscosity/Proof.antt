@@ -30,7 +30,9 @@ put-digit-requires-2 c κs =
 
 put-digit-requires-3 : tie.Need-put-digit-requires-3
 put-digit-requires-3 c κs =
-    let start = c .before .before .before .before .before .before .before .before .before .before .before .before .before .before .before .before .before .before in
+    let hundredths = c .before .before .before in
+    let point = hundredths .before .before .before .before .before .before .before .before in
+    let start = point .before .before .before .before .before .before .before in
     omega (arith, digits-of-whole (start .args .x) (start .fits .x .fits))
 
 same-length : tie.Need-same-length
