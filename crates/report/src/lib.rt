@@ -21,6 +21,7 @@ pub const MOST_INPUT: usize = 65_536;
 
 const TOO_LONG: u8 = 12;
 
+// ASCII codes; ZERO is that of the digit 0.
 const SPACE: u8 = b' ';
 
 const POINT: u8 = b'.';
@@ -47,7 +48,7 @@ const METHOD_AT: usize = 1;
 
 const INDEX_AT: usize = 4;
 
-// The methods of a record; the one that is left is B near.
+// The methods of a record; any other is B near, 3.
 const METHOD_REFUSED: u8 = 0;
 
 const METHOD_A: u8 = 1;
