@@ -10,7 +10,7 @@ import sys
 import time
 from fractions import Fraction
 
-HEADER, PAIR, RESULT = 16, 8, 16
+HEADER, RESULT = 16, 16  # sizes in bytes
 PROGRAM = sys.argv[1]
 TABLE = os.path.join(os.path.dirname(os.path.abspath(__file__)), "..", "data", "table1.txt")
 WAIT = 20  # seconds: a program that takes longer hangs
