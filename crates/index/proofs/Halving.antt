@@ -16,7 +16,7 @@ use Rattle.logarithm.proofs.Log2.{log2-enclosed}
 use Rattle.index.specs.declared.Mark.the-variants as mark
 use Rattle.index.specs.declared.Trial.the-variants as trial
 use Rattle.index.specs.ProcedureB.{c}
-use Rattle.index.specs.Chosen.{log10, log10000000, showsLeast, showsMost, searchOf, wholeOf, made, markedOf, trialOf}
+use Rattle.index.specs.Chosen.{mostLower, log10, log10000000, showsLeast, showsMost, searchOf, wholeOf, made, markedOf, trialOf}
 use Rattle.index.proofs.Constants.{ten, ten-million}
 use Rattle.index.proofs.Gap.{apart, c-range}
 use Rattle.index.proofs.Tests.{true-least, false-least, least-easier}
@@ -55,7 +55,7 @@ log-999950 =
 pub hundred-shown : (p : ℕ) → showsLeast p 9950 ≡ true
 hundred-shown p = true-least p 9950 (omega (arith, log-9950))
 
-pub bracket-start : (p : ℕ) → p ≤ 30758229 → Bracket p 100 10000
+pub bracket-start : (p : ℕ) → p ≤ mostLower → Bracket p 100 10000
 bracket-start p h =
     record {
       order = omega arith;
@@ -118,12 +118,12 @@ search-law (suc f) p lo hi b h =
     step true e wide up down = up (bracket-up p lo hi b wide e) (halved lo hi f h .0)
     step false e wide up down = down (bracket-down p lo hi b wide e) (halved lo hi f h .1)
 
-pub whole : (p : ℕ) → p ≤ 30758229 → Bracket p (wholeOf p) (wholeOf p + 1)
+pub whole : (p : ℕ) → p ≤ mostLower → Bracket p (wholeOf p) (wholeOf p + 1)
 unfolding wholeOf
 whole p h = search-law 14 p 100 10000 (bracket-start p h) (lit≤ tt)
 
 -- so whatever finds a k with that bracket finds this one
-pub found : (p k : ℕ) → p ≤ 30758229 → Bracket p k (k + 1) → k ≡ wholeOf p
+pub found : (p k : ℕ) → p ≤ mostLower → Bracket p k (k + 1) → k ≡ wholeOf p
 found p k h b = omega (arith, only-one p (wholeOf p) k (whole p h) b, only-one p k (wholeOf p) b (whole p h))
 
 -- ---- what trying k shows, where it finds the index

@@ -14,4 +14,5 @@ pub mod Right
 pub mod Fits
 pub mod Order
 pub mod Examples
+pub mod Consistent
 pub mod Thresholds

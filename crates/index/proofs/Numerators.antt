@@ -13,7 +13,7 @@ use Rattle.logarithm.specs.Scale.{scale, scale-is, scaleNumber, width}
 use Rattle.logarithm.specs.Log2.{Enclosed}
 use Rattle.logarithm.proofs.FromLogarithms.{powers-le}
 use Rattle.index.specs.ProcedureB.{Q, Q-is}
-use Rattle.index.specs.Chosen.{parts, log1000, InBounds, lowerFrom, upperFrom}
+use Rattle.index.specs.Chosen.{mostLower, parts, log1000, InBounds, lowerFrom, upperFrom}
 use Rattle.index.proofs.Constants.{thousand}
 
 -- what is known of the logarithms of an oil below H
@@ -83,7 +83,7 @@ module _ (y U H ly lU lH : ℕ) (o : Logarithms y U H ly lU lH) where
   unfolding lowerFrom
   not-floor = lt-div-mul-add (omega (arith, o .least))
 
-  pub few : lowerFrom ly lU lH ≤ 30758229
+  pub few : lowerFrom ly lU lH ≤ mostLower
   few =
       let r : 6 * lowerFrom ly lU lH ≤ 11 * parts =
       few-algebra parts (lowerFrom ly lU lH) (ly + width - log1000) (lH - (lU + width)) (omega (arith, o .least)) floor (omega (arith, o .range, o .least)) in

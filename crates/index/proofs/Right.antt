@@ -13,7 +13,7 @@ use Rattle.index.specs.Questions.{refusal}
 use Rattle.index.specs.ProcedureA.{inUnits, indexA}
 use Rattle.index.specs.ProcedureB.{Q, AtLeast, AtMost, SettledAt, NearAt}
 use Rattle.index.specs.Answer.{RightB, RightAnswer}
-use Rattle.index.specs.Chosen.{showsLeast, showsMost, lowerOfPair, upperOfPair, made, markedOf, byB, finishedOf, answerOf}
+use Rattle.index.specs.Chosen.{mostLower, showsLeast, showsMost, lowerOfPair, upperOfPair, made, markedOf, byB, finishedOf, answerOf}
 use Rattle.index.proofs.Accepted.{Accepted, by-questions, passes}
 use Rattle.index.proofs.Deciding.{decided-refused, decided-below, decided-a}
 use Rattle.index.proofs.Numerators.{few, lower-shows, upper, upper-shows}
@@ -25,7 +25,7 @@ use Rattle.index.proofs.OilLogarithms.{logarithms}
 
 module _ (u y p P k : ℕ) (below : inUnits u < H-at y)
     (lower : y ^ p * inUnits u ^ Q ≤ 1000 ^ p * H-at y ^ Q) (upper : 1000 ^ P * H-at y ^ Q ≤ y ^ P * inUnits u ^ Q)
-    (few : p ≤ 30758229) (next : P ≤ p + 2) (b : Bracket p k (k + 1)) where
+    (few : p ≤ mostLower) (next : P ≤ p + 2) (b : Bracket p k (k + 1)) where
   at-least : (r : ℕ) → 9900 ≤ r → r ≤ 1000100 → showsLeast p r ≡ true → AtLeast u y r p
   at-least r l h e = record { index = least-shows p r l h e; viscosity = lower }
 

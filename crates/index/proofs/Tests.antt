@@ -15,7 +15,7 @@ use Rattle.logarithm.proofs.Log2.{log2-enclosed}
 use Rattle.logarithm.proofs.FromLogarithms.{powers-le, logs-le, one-above, one-below}
 use Rattle.index.specs.declared.Trial.the-variants as trial
 use Rattle.index.specs.ProcedureB.{Q, Q-is, c}
-use Rattle.index.specs.Chosen.{parts, log10, log10000000, LogOfC, showsLeast, showsMost, trialOf}
+use Rattle.index.specs.Chosen.{mostLower, parts, log10, log10000000, LogOfC, showsLeast, showsMost, trialOf}
 use Rattle.index.proofs.Constants.{ten, ten-million, one-two-eight-above}
 use Rattle.index.proofs.Gap.{apart, c-range, c-apart}
 
@@ -127,7 +127,7 @@ most-shows P r l h e =
 
 -- ---- beside a half: where p does not show at least r + 1 and P does not show at most r + 1, p shows at least r and P at most r + 2
 
-module _ (p P r : ℕ) (few : p ≤ 30758229) (next : P ≤ p + 2) (low : 9900 ≤ r) (high : r ≤ 1000000)
+module _ (p P r : ℕ) (few : p ≤ mostLower) (next : P ≤ p + 2) (low : 9900 ≤ r) (high : r ≤ 1000000)
     (l : showsLeast p (r + 1) ≡ false) (g : showsMost P (r + 1) ≡ false) where
   pub beside-least : showsLeast p r ≡ true
   beside-least = true-least p r (omega (arith, c-apart r (r + 1) low (omega arith) (omega arith), most-false P (r + 1) g))

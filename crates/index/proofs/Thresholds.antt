@@ -14,7 +14,7 @@ use Rattle.logarithm.specs.Tables.{firstTable, secondTable}
 use Rattle.logarithm.specs.Log2.{zerosOf, mantissa, entryOf, timesFactor, taken, left, lineOf, restOf, fractionOf, log2Of}
 use Rattle.index.specs.declared.Trial.the-variants as trial
 use Rattle.index.specs.Thresholds.{thresholds}
-use Rattle.index.specs.Chosen.{showsLeast, trialOf}
+use Rattle.index.specs.Chosen.{mostUpper, showsLeast, trialOf}
 use Rattle.index.proofs.Tests.{least-false, false-least, true-most, least-easier, trial-settled}
 
 -- entry i, against the index 99.5 + i
@@ -49,7 +49,7 @@ not-shown i p h =
     fails (eqb i 0) _ (and-right (showsLeast (getD thresholds i 0) (9950 + 100 * i)) _ (at right thresholds whole-table i (within i h))) (ne-eqb i 0 (λ e. omega arith))
 
 -- k is settled where p has passed its threshold and P is at least 2 below the next one
-pub settled-by-thresholds : (k p P : ℕ) → 100 ≤ k → k < 356 → P ≤ 30758231 → p < P
+pub settled-by-thresholds : (k p P : ℕ) → 100 ≤ k → k < 356 → P ≤ mostUpper → p < P
     → getD thresholds (k - 100) 0 ≤ p → P + 2 ≤ getD thresholds (k - 100 + 1) 0 → trialOf k p P ≡ trial.Settled
 settled-by-thresholds k p P l h f m a b =
     let here : 9950 + 100 * (k - 100) ≡ 100 * k - 50 = omega arith in

@@ -46,7 +46,7 @@ upperOf (Refused number) = 0
 upperOf (A index) = 0
 upperOf (B b) = b .upper
 
--- an oil below H: "the index from 100 to 10,000", and what its mark says, shown by its own two fractions
+-- an oil below H: its index is at least 100, as H itself has, and "at most 10,000"; and what its mark says, shown by its own two fractions
 pub record RightB (u y : ℕ) (b : ByB) : Type 0 where
   pub below : inUnits u < H-at y
   pub least : 100 ≤ b .index

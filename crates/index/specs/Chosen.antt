@@ -39,6 +39,13 @@ log1000 = 684843481305
 abbrev pub log10000000 : ℕ
 log10000000 = 1597968123046
 
+-- the greatest p, 11/6 of Q, since N is at most 11/6 for every oil below H; and the greatest P, two more
+abbrev pub mostLower : ℕ
+mostLower = 30758229
+
+abbrev pub mostUpper : ℕ
+mostUpper = 30758231
+
 -- ---- the two numerators, from the logarithms of y, U and H
 
 -- what the logarithms of an oil below H keep to: Y is at least 2, U is not above H, and H is at most 128 times U
@@ -104,9 +111,9 @@ upperOfPair u y = upperFrom (log2Of y) (log2Of (inUnits u)) (log2Of (H-at y)) (l
 pub record Found (u y p P : ℕ) : Type 0 where
   pub lower-is : p ≡ lowerOfPair u y
   pub upper-is : P ≡ upperOfPair u y
-  pub lower-fits : p ≤ 30758229
+  pub lower-fits : p ≤ mostLower
   pub order : p < P
-  pub upper-fits : P ≤ 30758231
+  pub upper-fits : P ≤ mostUpper
 
 unfoldable pub byB : ℕ → ℕ → ByB
 byB u y = markedOf (wholeOf (lowerOfPair u y)) (lowerOfPair u y) (upperOfPair u y)

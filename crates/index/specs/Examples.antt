@@ -1,10 +1,13 @@
 -- Document 01, 'Pairs and sheets to try': all starred examples, gathered into one statement about the definitions.
 -- proofs/Examples.antt shows it by computation.
 -- Assumes nothing.
+use Prim.Native.Nat.{_*_, _-_}
 use mathlib.Core.Path.{_≡_}
 use lib.IntN.{pos, negsuc}
+use Rattle.reference.specs.Basis.{L-at, H-at}
 use Rattle.reference.specs.Examples.{StarredBasis}
 use Rattle.index.specs.declared.Answer.the-variants.{A}
+use Rattle.index.specs.ProcedureA.{inUnits}
 use Rattle.index.specs.Chosen.{answerOf}
 
 -- a negative number is `negsuc n`, which is −(n + 1)
@@ -17,9 +20,11 @@ pub record StarredExamples : Type 0 where
   pub a-87 : answerOf 53470 7080 ≡ A (pos 87)
   -- "(28490, 5000): A 100."
   pub a-100 : answerOf 28490 5000 ≡ A (pos 100)
-  -- "(7986, 2000): exactly 0.5, A 1."
+  -- "(7986, 2000): exactly 0.5, A 1." 100·(L − U) is half of L − H
+  pub half-exact : 200 * (L-at 2000 - inUnits 7986) ≡ L-at 2000 - H-at 2000
   pub half : answerOf 7986 2000 ≡ A (pos 1)
-  -- "(8018, 2000): −1.5, A −1."
+  -- "(8018, 2000): −1.5, A −1." 100·(U − L) is three halves of L − H
+  pub negative-half-exact : 200 * (inUnits 8018 - L-at 2000) ≡ 3 * (L-at 2000 - H-at 2000)
   pub negative-half : answerOf 8018 2000 ≡ A (negsuc 0)
   -- "(1000000000, 2000): A −62,499,500."
   pub thickest : answerOf 1000000000 2000 ≡ A (negsuc 62499499)

@@ -6,3 +6,4 @@ pub mod Thresholds
 pub mod Lent
 pub mod Chosen
 pub mod Examples
+pub mod Consistent

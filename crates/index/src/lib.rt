@@ -3,8 +3,8 @@
 // Procedure B. With Y = y / 1000 and N = log(H / U) / log(Y) the index is (10^N − 1) / 0.00715 + 100. The logarithms of y, U and H, each enclosed
 // by whole powers (crate logarithm), give p / Q at or below N and P / Q at or above it, Q = 2^24 and P at most p + 2. c(r) is 10^7 · 10^N at an
 // index of r hundredths; its logarithm tells whether p shows "at least r" and P "at most r". k is the whole number of which p shows at least
-// k − 0.5 and not k + 0.5: it is guessed from p, tried, and searched by halving where the guess was wrong. If P shows at most k + 0.5, k is
-// settled; otherwise the index is so close to k + 0.5 that it is near k + 1. All is done on 64-bit whole numbers.
+// k − 0.5 and not k + 0.5: it is guessed from p, confirmed by a table of thresholds or tried, and searched by halving where the guess was wrong.
+// If P shows at most k + 0.5, k is settled; otherwise the index is so close to k + 0.5 that it is near k + 1. All is done on 64-bit whole numbers.
 //
 // The functions that calculate are lent the tables; `answer_pair` copies those that it needs, and a caller with many pairs copies them once and
 // calls `answer_lent`.
@@ -23,7 +23,7 @@ ghost use Rattle.index.specs.ProcedureB.{c};
 ghost use Rattle.index.specs.Answer.{RightAnswer};
 ghost use Rattle.index.specs.Lent.{Lent};
 ghost use Rattle.index.specs.Thresholds.{thresholds as thresholdList};
-ghost use Rattle.index.specs.Chosen.{parts, log10, log1000, log10000000, InBounds, LogOfC, lowerFrom, upperFrom, showsLeast, showsMost, wholeOf, made, markedOf, trialOf, byB, Found, BelowH, decidedOf, answerOf};
+ghost use Rattle.index.specs.Chosen.{parts, mostLower, mostUpper, log10, log1000, log10000000, InBounds, LogOfC, lowerFrom, upperFrom, showsLeast, showsMost, wholeOf, made, markedOf, trialOf, byB, Found, BelowH, decidedOf, answerOf};
 use reference::Asked40;
 use reference::Asked100;
 use reference::Kv40;
@@ -198,7 +198,7 @@ fn log_c(first: &[u64; 256], second: &[u64; 256], r: u64) -> u64
 
 // Do the logarithms show that p shows "at least r"? lc is the logarithm of c(r); 10^7 is taken off it, so that the products fit 64 bits.
 fn shows_least(lc: u64, p: u64) -> bool
-    requires { ⌜ LogOfC lc × (p ≤ 30758229) ⌝ }
+    requires { ⌜ LogOfC lc × (p ≤ mostLower) ⌝ }
     ensures { λ b. ⌜ b ≡ leb ((lc + width) * parts) (log10 * p + log10000000 * parts) ⌝ }
 {
     (lc + WIDTH - LOG_10_7) * Q <= LOG_10 * p
@@ -206,7 +206,7 @@ fn shows_least(lc: u64, p: u64) -> bool
 
 // Do the logarithms show that P shows "at most r"?
 fn shows_most(lc: u64, upper: u64) -> bool
-    requires { ⌜ LogOfC lc × (upper ≤ 30758231) ⌝ }
+    requires { ⌜ LogOfC lc × (upper ≤ mostUpper) ⌝ }
     ensures { λ b. ⌜ b ≡ leb ((log10 + 1) * upper + (log10000000 + 1) * parts) (lc * parts) ⌝ }
 {
     (LOG_10 + 1) * upper <= (lc - (LOG_10_7 + 1)) * Q
@@ -215,7 +215,7 @@ fn shows_most(lc: u64, upper: u64) -> bool
 // Is at least k − 0.5 shown? Of 100 it always is: c is below 10^7 there.
 fn shown_below(first: &[u64; 256], second: &[u64; 256], k: u64, p: u64) -> bool
     requires lent { ⌜ logarithm.Lent (now first) (now second) ⌝ }
-    requires { ⌜ (100 ≤ k) × (k ≤ 10000) × (p ≤ 30758229) ⌝ }
+    requires { ⌜ (100 ≤ k) × (k ≤ 10000) × (p ≤ mostLower) ⌝ }
     ensures { λ b. ⌜ b ≡ showsLeast p (100 * k - 50) ⌝ }
 {
     if k <= 100 {
@@ -227,7 +227,7 @@ fn shown_below(first: &[u64; 256], second: &[u64; 256], k: u64, p: u64) -> bool
 // What trying k says.
 fn try_index(first: &[u64; 256], second: &[u64; 256], k: u64, p: u64, upper: u64) -> Trial
     requires lent { ⌜ logarithm.Lent (now first) (now second) ⌝ }
-    requires { ⌜ (100 ≤ k) × (k < 10000) × (p ≤ 30758229) × (upper ≤ 30758231) ⌝ }
+    requires { ⌜ (100 ≤ k) × (k < 10000) × (p ≤ mostLower) × (upper ≤ mostUpper) ⌝ }
     ensures { λ r. ⌜ r ≡ trialOf k p upper ⌝ }
 {
     let above = log_c(first, second, 100 * k + 50);
@@ -246,7 +246,7 @@ fn try_index(first: &[u64; 256], second: &[u64; 256], k: u64, p: u64, upper: u64
 // The search for k by halving, where the guess was wrong.
 fn search(first: &[u64; 256], second: &[u64; 256], p: u64) -> u64
     requires lent { ⌜ logarithm.Lent (now first) (now second) ⌝ }
-    requires { ⌜ p ≤ 30758229 ⌝ }
+    requires { ⌜ p ≤ mostLower ⌝ }
     ensures { λ r. ⌜ r ≡ wholeOf p ⌝ }
 {
     let mut lo: u64 = 100;
@@ -294,9 +294,9 @@ fn within_search(k: u64) -> u64
     k
 }
 
-// A guess of k from p, which nothing leans on: 10^(p / Q) as a power of two, then the index at it, rounded. 217,706 / 2^16 is log2 10.
+// A guess of k from p, which nothing leans on: 10^(p / Q) as a power of two, then the index at it, rounded. 217,706 / 2^16 is close to log2 10.
 fn guess(p: u64) -> u64
-    requires { ⌜ p ≤ 30758229 ⌝ }
+    requires { ⌜ p ≤ mostLower ⌝ }
     ensures { λ r. ⌜ (100 ≤ r) × (r < 10000) ⌝ }
 {
     let z = p * 217_706 / 65_536;
@@ -309,7 +309,7 @@ fn guess(p: u64) -> u64
 
 // An index by procedure B, from numbers that are known to fit.
 fn by_b(k: u64, mark: Mark, p: u64, upper: u64) -> ByB
-    requires { ⌜ (k ≤ 10000) × (p ≤ 30758229) × (upper ≤ 30758231) ⌝ }
+    requires { ⌜ (k ≤ 10000) × (p ≤ mostLower) × (upper ≤ mostUpper) ⌝ }
     ensures { λ r. ⌜ r ≡ made k mark p upper ⌝ }
 {
     ByB {
@@ -323,7 +323,7 @@ fn by_b(k: u64, mark: Mark, p: u64, upper: u64) -> ByB
 // The mark of a k that was searched.
 fn mark_of(first: &[u64; 256], second: &[u64; 256], k: u64, p: u64, upper: u64) -> ByB
     requires lent { ⌜ logarithm.Lent (now first) (now second) ⌝ }
-    requires { ⌜ (100 ≤ k) × (k < 10000) × (p ≤ 30758229) × (upper ≤ 30758231) ⌝ }
+    requires { ⌜ (100 ≤ k) × (k < 10000) × (p ≤ mostLower) × (upper ≤ mostUpper) ⌝ }
     ensures { λ r. ⌜ r ≡ markedOf k p upper ⌝ }
 {
     if shows_most(log_c(first, second, 100 * k + 50), upper) {
@@ -335,7 +335,7 @@ fn mark_of(first: &[u64; 256], second: &[u64; 256], k: u64, p: u64, upper: u64) 
 // The index of p and P: the guess, where it proves right; otherwise the search.
 fn index_of(first: &[u64; 256], second: &[u64; 256], p: u64, upper: u64) -> ByB
     requires lent { ⌜ logarithm.Lent (now first) (now second) ⌝ }
-    requires { ⌜ (p ≤ 30758229) × (upper ≤ 30758231) ⌝ }
+    requires { ⌜ (p ≤ mostLower) × (upper ≤ mostUpper) ⌝ }
     ensures { λ r. ⌜ r ≡ markedOf (wholeOf p) p upper ⌝ }
 {
     let k = guess(p);
@@ -356,7 +356,7 @@ fn wide(x: u32) -> u64
 // Do two entries of the table of thresholds tell that k is settled? They do for most oils up to an index of 355; a no says nothing.
 fn settled_by_thresholds(thresholds: &[u32; 257], k: u64, p: u64, upper: u64) -> bool
     requires lent { ⌜ now thresholds ≡ thresholdList ⌝ }
-    requires { ⌜ (100 ≤ k) × (p < upper) × (upper ≤ 30758231) ⌝ }
+    requires { ⌜ (100 ≤ k) × (p < upper) × (upper ≤ mostUpper) ⌝ }
     ensures { λ b. ⌜ (b ≡ true → trialOf k p upper ≡ Trial.Settled) ⌝ }
 {
     if 355 < k {
@@ -379,7 +379,7 @@ fn index_by_thresholds(
 ) -> ByB
     requires lent { ⌜ logarithm.Lent (now first) (now second) ⌝ }
     requires halves { ⌜ now thresholds ≡ thresholdList ⌝ }
-    requires { ⌜ (p ≤ 30758229) × (p < upper) × (upper ≤ 30758231) ⌝ }
+    requires { ⌜ (p ≤ mostLower) × (p < upper) × (upper ≤ mostUpper) ⌝ }
     ensures { λ r. ⌜ r ≡ markedOf (wholeOf p) p upper ⌝ }
 {
     let k = guess(p);

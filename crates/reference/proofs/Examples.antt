@@ -1,10 +1,10 @@
--- The starred examples of document 01 about L and H, computed from the definitions.
+-- The starred examples of document 01 about L and H, and the rows that it names, computed from the definitions.
 -- Assumes nothing.
 use mathlib.Core.Path.{refl}
 use lib.Dec.{lit<}
 use Rattle.reference.specs.Table1.{table1}
 use Rattle.reference.specs.Basis.{entry, atPlace, L-at, H-at}
-use Rattle.reference.specs.Examples.{StarredBasis}
+use Rattle.reference.specs.Examples.{StarredBasis, KnownDifferences}
 
 pub starred-basis : StarredBasis
 unfolding L-at H-at atPlace entry table1
@@ -18,3 +18,7 @@ starred-basis =
       l-70001 = refl;
       below-70 = lit< tt;
     }
+
+pub known-differences : KnownDifferences
+unfolding entry table1
+known-differences = record { row-39 = (refl, refl); row-21-8 = (refl, refl); row-45-5 = (refl, refl, refl) }

@@ -1,9 +1,9 @@
 -- Document 01, 'Pairs and sheets to try': the starred examples about L and H, in units of 10^-10 mm²/s, as one statement.
--- proofs/Examples.antt shows it from the definitions by computation.
+-- And the rows that document 01 names where the sources differ. proofs/Examples.antt shows both from the definitions by computation.
 -- Assumes nothing.
 use Prim.Native.Nat.{_*_, _<_}
 use mathlib.Core.Path.{_≡_}
-use Rattle.reference.specs.Basis.{L-at, H-at, rowL}
+use Rattle.reference.specs.Basis.{L-at, H-at, rowL, rowH, viscosityOf}
 
 pub record StarredBasis : Type 0 where
   -- "y 8860: L 119.94, H 69.48 mm²/s"
@@ -17,3 +17,10 @@ pub record StarredBasis : Type 0 where
   -- "y 70001: L is 49,040,016,128,353 units, below the row at 70", which is row 310
   pub l-70001 : L-at 70001 ≡ 49040016128353
   pub below-70 : L-at 70001 < rowL 310 * 10000000
+
+-- "Known differences: at 39.0 L is 1651 (003 prints 1661); at 21.8 H is 261.5 (003 prints 261.6); the row that 003 labels 46,5 with 2197 and
+-- 794,5 is 45.5." Each row by its viscosity, in thousandths
+pub record KnownDifferences : Type 0 where
+  pub row-39 : (viscosityOf 248 ≡ 39000) × (rowL 248 ≡ 1651000)
+  pub row-21-8 : (viscosityOf 189 ≡ 21800) × (rowH 189 ≡ 261500)
+  pub row-45-5 : (viscosityOf 261 ≡ 45500) × (rowL 261 ≡ 2197000) × (rowH 261 ≡ 794500)

@@ -89,7 +89,7 @@ pub struct Place {
 
 // The row at or below y and the place within its spacing. The rows are 100, 200 or 500 thousandths apart; measured in
 // thousandths of that spacing, y stands `along` past a row 0, so that one division serves all three.
-pub fn locate(y: u32) -> Place
+fn locate(y: u32) -> Place
     requires { ⌜ (2000 ≤ y) × (y ≤ 70000) ⌝ }
     ensures { λ r. ⌜ r ≡ placeOf y ⌝ }
 {
@@ -186,8 +186,8 @@ pub struct Basis {
     pub h: u64,
 }
 
-// L and H at y from the lent table. An inner function, as l_at.
-pub fn basis_at(rows: &[u32; 622], y: Kv100) -> Basis
+// L and H at y from the lent table.
+fn basis_at(rows: &[u32; 622], y: Kv100) -> Basis
     requires lent { ⌜ now rows ≡ table1 ⌝ }
     requires { ⌜ (least100 ≤ y .thousandths) × (y .thousandths ≤ greatest100) ⌝ }
     ensures { λ r. ⌜ r ≡ basisOf (y .thousandths) ⌝ }
