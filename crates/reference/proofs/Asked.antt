@@ -1,22 +1,15 @@
--- What the constructors of the two viscosities answer: a viscosity that is within its limits is the number asked about, and the
--- request for L and H asks the same questions.
+-- What the constructors of the two viscosities answer: a viscosity that is within its limits is the number asked about.
 -- Assumes nothing.
 use Prim.Native.Nat.{ℕ, _≤_}
-use mathlib.Core.Path.{_≡_, refl, sym, ap}
-use mathlib.Core.Bool.{Bool, true, false, cond}
-use lib.Dec.{ltb}
+use mathlib.Core.Path.{_≡_, sym, ap}
 use native.Mathlib.Omega.{arith}
 use borrow.Author.Tests.{lt-ltb, le-ltb}
 use Rattle.laws.proofs.Order.{by-order}
 use Rattle.reference.specs.declared.Kv100.{Kv100}
 use Rattle.reference.specs.declared.Kv40.{Kv40}
-use Rattle.reference.specs.declared.Asked100.{Asked100}
 use Rattle.reference.specs.declared.Asked100.the-variants as at100
 use Rattle.reference.specs.declared.Asked40.the-variants as at40
-use Rattle.reference.specs.declared.Reference.{Reference}
-use Rattle.reference.specs.declared.Reference.the-variants.{Refused, Oils}
 use Rattle.reference.specs.Viscosity.{least100, greatest100, greatest40, asked100, asked40}
-use Rattle.reference.specs.Basis.{basisOf, referenceOf}
 
 pub record Within100 (y : ℕ) (v : Kv100) : Type 0 where
   pub least : least100 ≤ y
@@ -47,18 +40,3 @@ within40 u v e =
     (λ b. let f : at40.Within (record { thousandths = u }) ≡ at40.Within v = rw (le-ltb greatest40 u b) at e in
     let g : _≡_ {A = Kv40} (record { thousandths = u }) v = cc in
     record { greatest = b; same = sym (ap (λ (k : Kv40). k .thousandths) g) })
-
--- the answer to the request once y was asked about
-abbrev pub ofAsked : Asked100 → Reference
-ofAsked (at100.Refused n) = Refused n
-ofAsked (at100.Within v) = Oils (basisOf (v .thousandths))
-
-by-tests : (p q : Bool) (y : ℕ) →
-    ofAsked (cond p (at100.Refused 1) (cond q (at100.Refused 2) (at100.Within (record { thousandths = y }))))
-    ≡ cond p (Refused 1) (cond q (Refused 2) (Oils (basisOf y)))
-by-tests true q y = refl
-by-tests false true y = refl
-by-tests false false y = refl
-
-pub reference-asked : (y : ℕ) → ofAsked (asked100 y) ≡ referenceOf y
-reference-asked y = by-tests (ltb y least100) (ltb greatest100 y) y

@@ -1,7 +1,7 @@
 -- Document 01, 'The two viscosities' and the questions of 'Questions to a pair' that concern one viscosity.
 -- A viscosity is a whole number of thousandths of a mm²/s: y at 100 °C, u at 40 °C.
 -- Assumes nothing.
-use Prim.Native.Nat.{ℕ}
+use Prim.Native.Nat.{ℕ, _*_}
 use mathlib.Core.Bool.{cond}
 use lib.Dec.{ltb}
 use Rattle.reference.specs.declared.Asked100.{Asked100}
@@ -32,3 +32,7 @@ asked100 y =
 -- "Is u at most 1,000,000,000? No: 3." No u is below the least, which is 0.
 abbrev pub asked40 : ℕ → Asked40
 asked40 u = cond (ltb greatest40 u) (at40.Refused 3) (at40.Within (record { thousandths = u }))
+
+-- "One unit here is 10^-10 mm²/s": thousandths of a mm²/s in units, of which a thousandth has 10^7
+abbrev pub inUnits : ℕ → ℕ
+inUnits thousandths = thousandths * 10000000

@@ -6,9 +6,9 @@
 // TABLE1 into a local once and lends it; the functions that are lent it say in their `requires` that they were lent that table.
 ghost use mathlib.Core.Path.{_≡_};
 ghost use Prim.Native.Nat.{_<_, _≤_, _+_, _*_, _-_, _/_, _%_};
-ghost use Rattle.reference.specs.Viscosity.{least100, greatest100, least40, greatest40, asked100, asked40};
+ghost use Rattle.reference.specs.Viscosity.{least100, greatest100, least40, greatest40, asked100, asked40, inUnits};
 ghost use Rattle.reference.specs.Table1.{table1};
-ghost use Rattle.reference.specs.Basis.{entry, placeOf, lineOf, atPlace, L-at, H-at, basisOf, referenceOf};
+ghost use Rattle.reference.specs.Basis.{entry, rowCount, placeOf, lastRow, lineOf, atPlace, quadraticL, quadraticH, L-at, H-at, basisOf, referenceOf};
 use table1::TABLE1;
 
 pub mod table1;
@@ -90,7 +90,7 @@ pub struct Place {
 // The row at or below y and the place within its spacing. The rows are 100, 200 or 500 thousandths apart; measured in
 // thousandths of that spacing, y stands `along` past a row 0, so that one division serves all three.
 fn locate(y: u32) -> Place
-    requires { ⌜ (2000 ≤ y) × (y ≤ 70000) ⌝ }
+    requires { ⌜ (least100 ≤ y) × (y ≤ lastRow) ⌝ }
     ensures { λ r. ⌜ r ≡ placeOf y ⌝ }
 {
     if y < 20_000 {
@@ -122,17 +122,17 @@ fn line(a: u32, b: u32, share: u32) -> u64
     ((a as u64) * (rest as u64) + (b as u64) * (share as u64)) * 10_000
 }
 
-// A row's entry in units of 10^-10 mm²/s, of which a thousandth has 10^7.
-fn in_units(entry: u32) -> u64
-    ensures { λ r. ⌜ r ≡ entry * 10000000 ⌝ }
+// Thousandths of a mm²/s in units of 10^-10 mm²/s, of which a thousandth has 10^7.
+pub fn in_units(thousandths: u32) -> u64
+    ensures { λ r. ⌜ r ≡ inUnits thousandths ⌝ }
 {
-    (entry as u64) * 10_000_000
+    (thousandths as u64) * 10_000_000
 }
 
 // L or H, by its column, at a place of the table.
 fn at_place(rows: &[u32; 622], column: usize, p: Place) -> u64
     requires lent { ⌜ now rows ≡ table1 ⌝ }
-    requires { ⌜ (column < 2) × (p .row < 311) × (p .share < 1000) × ((p .share ≡ 0 → ⊥) → p .row + 1 < 311) ⌝ }
+    requires { ⌜ (column < 2) × (p .row < rowCount) × (p .share < 1000) × ((p .share ≡ 0 → ⊥) → p .row + 1 < rowCount) ⌝ }
     ensures { λ r. ⌜ r ≡ atPlace (entry column) p ⌝ }
 {
     let row = p.row;
@@ -152,6 +152,21 @@ fn quadratic(a: u64, b: u64, c: u64, y: u32) -> u64
     a * (x * x) + b * x - c
 }
 
+// L and H at a y above the table.
+fn l_above(y: u32) -> u64
+    requires { ⌜ (lastRow < y) × (y ≤ greatest100) ⌝ }
+    ensures { λ r. ⌜ r ≡ quadraticL y ⌝ }
+{
+    quadratic(8_353, 146_700_000, 2_160_000_000_000, y)
+}
+
+fn h_above(y: u32) -> u64
+    requires { ⌜ (lastRow < y) × (y ≤ greatest100) ⌝ }
+    ensures { λ r. ⌜ r ≡ quadraticH y ⌝ }
+{
+    quadratic(1_684, 118_500_000, 970_000_000_000, y)
+}
+
 // L at y. An inner function, for callers that have asked y's questions and hold the lent table.
 pub fn l_at(rows: &[u32; 622], y: Kv100) -> u64
     requires lent { ⌜ now rows ≡ table1 ⌝ }
@@ -162,7 +177,7 @@ pub fn l_at(rows: &[u32; 622], y: Kv100) -> u64
     if x <= LAST_ROW {
         at_place(rows, COLUMN_L, locate(x))
     } else {
-        quadratic(8_353, 146_700_000, 2_160_000_000_000, x)
+        l_above(x)
     }
 }
 
@@ -176,7 +191,7 @@ pub fn h_at(rows: &[u32; 622], y: Kv100) -> u64
     if x <= LAST_ROW {
         at_place(rows, COLUMN_H, locate(x))
     } else {
-        quadratic(1_684, 118_500_000, 970_000_000_000, x)
+        h_above(x)
     }
 }
 
@@ -186,15 +201,22 @@ pub struct Basis {
     pub h: u64,
 }
 
-// L and H at y from the lent table.
-fn basis_at(rows: &[u32; 622], y: Kv100) -> Basis
-    requires lent { ⌜ now rows ≡ table1 ⌝ }
+// L and H at y. The table is copied only for a y that stands in it.
+fn basis_of(y: Kv100) -> Basis
     requires { ⌜ (least100 ≤ y .thousandths) × (y .thousandths ≤ greatest100) ⌝ }
     ensures { λ r. ⌜ r ≡ basisOf (y .thousandths) ⌝ }
 {
+    let x = y.thousandths;
+    if LAST_ROW < x {
+        return Basis {
+            l: l_above(x),
+            h: h_above(x),
+        };
+    }
+    let rows = TABLE1;
     Basis {
-        l: l_at(rows, y),
-        h: h_at(rows, y),
+        l: l_at(&rows, y),
+        h: h_at(&rows, y),
     }
 }
 
@@ -210,9 +232,6 @@ pub fn reference_oils(y: u32) -> Reference
 {
     match Kv100::new(y) {
         Asked100::Refused(number) => Reference::Refused(number),
-        Asked100::Within(v) => {
-            let rows = TABLE1;
-            Reference::Oils(basis_at(&rows, v))
-        }
+        Asked100::Within(v) => Reference::Oils(basis_of(v)),
     }
 }

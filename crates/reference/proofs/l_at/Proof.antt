@@ -15,8 +15,8 @@ locate-requires c κs = search needs
 at-place-requires : tie.Need-at-place-requires
 at-place-requires c κs = let s : Stands (c .before .before .args .y .thousandths) (c .locate .result) = rw (c .locate .ensures) (stands _ (c .before .before .pre .1 .0) (omega arith)) in (c .before .before .pre .0, (omega arith, s .row, s .inside, s .next))
 
-quadratic-requires : tie.Need-quadratic-requires
-quadratic-requires c κs = search needs
+l-above-requires : tie.Need-l-above-requires
+l-above-requires c κs = search needs
 
 returns : tie.Need-returns
 unfolding L-at
@@ -24,8 +24,8 @@ returns c = c .at-place .ensures ∙ simp (le-leb _ _ (c .before .before .if1 .t
 
 returns-2 : tie.Need-returns-2
 unfolding L-at
-returns-2 c = c .quadratic .ensures ∙ simp (lt-leb _ _ (c .before .if1 .left))
+returns-2 c = c .l-above .ensures ∙ simp (lt-leb _ _ (c .before .if1 .left))
 
 pub l-at-spec : {M : Type 1} → statement M
 l-at-spec =
-    tie.close (tie.spec locate-requires at-place-requires quadratic-requires returns returns-2)
+    tie.close (tie.spec locate-requires at-place-requires l-above-requires returns returns-2)
