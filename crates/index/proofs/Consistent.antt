@@ -8,8 +8,8 @@ use native.Mathlib.Nat.{le-trans, mul-assoc, mul-comm, mul-left-comm, mul-le-mul
 use lib.Pow.{pow-add}
 use Rattle.laws.proofs.Order.{by-order}
 use Rattle.laws.proofs.Powers.{ring, root}
+use Rattle.reference.specs.Viscosity.{inUnits}
 use Rattle.reference.specs.Basis.{H-at}
-use Rattle.index.specs.ProcedureA.{inUnits}
 use Rattle.index.specs.ProcedureB.{Q, Q-is, c, AtLeast, AtMost}
 use Rattle.index.specs.Consistent.{Consistent}
 

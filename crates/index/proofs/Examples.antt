@@ -5,11 +5,11 @@ use Rattle.reference.specs.Table1.{table1}
 use Rattle.reference.specs.Basis.{entry, atPlace, L-at, H-at}
 use Rattle.reference.proofs.Examples.{starred-basis}
 use Rattle.index.specs.ProcedureA.{roundedA, indexA}
-use Rattle.index.specs.Chosen.{decidedOf, finishedOf, answerOf}
+use Rattle.index.specs.Chosen.{answerOf}
 use Rattle.index.specs.Examples.{StarredExamples}
 
 pub starred-examples : StarredExamples
-unfolding answerOf finishedOf decidedOf indexA roundedA L-at H-at atPlace entry table1
+unfolding answerOf indexA roundedA L-at H-at atPlace entry table1
 starred-examples =
     record {
       basis = starred-basis;

@@ -8,21 +8,24 @@ use native.Mathlib.Nat.{div-lt-iff-lt-mul, lt-of-le-of-lt, sub-le}
 use lib.IntN.{subℕ}
 use lib.Signed.{mag}
 use Rattle.laws.proofs.Order.{by-order}
+use Rattle.reference.specs.Viscosity.{inUnits}
 use Rattle.reference.specs.Basis.{L-at, H-at}
 use Rattle.reference.proofs.Bounds.{bounds}
 use Rattle.logarithm.specs.Log2.{log2Of}
+use Rattle.index.specs.Questions.{Passes}
 use Rattle.index.specs.declared.Mark.the-variants as mark
 use Rattle.index.specs.declared.Answer.{Answer}
 use Rattle.index.specs.declared.Answer.the-variants as answer
-use Rattle.index.specs.ProcedureA.{inUnits, floorDiv, indexA}
+use Rattle.index.specs.ProcedureA.{floorDiv, indexA}
 use Rattle.index.specs.Answer.{indexOf, lowerOf, upperOf}
 use Rattle.index.specs.Chosen.{lowerFrom, upperFrom, lowerOfPair, upperOfPair, showsMost, wholeOf, made, markedOf, byB, answerOf}
 use Rattle.index.proofs.Difference.{sub-pos, sub-neg}
 use Rattle.index.proofs.ProcedureA.{rounded}
-use Rattle.index.proofs.Accepted.{Accepted, by-questions}
+use Rattle.index.proofs.Questions.{by-questions}
 use Rattle.index.proofs.Numerators.{few, upper}
 use Rattle.index.proofs.OilLogarithms.{logarithms}
-use Rattle.index.proofs.Right.{finished-refused, answer-a, answer-b, by-b-right}
+use Rattle.index.proofs.Cases.{answer-refused, answer-a, answer-b}
+use Rattle.index.proofs.Right.{by-b-right}
 
 pub record Fits (a : Answer) : Type 0 where
   pub index : mag (indexOf a) < 2147483648
@@ -40,7 +43,7 @@ floor-fits a b m p h k =
     (λ l. rw (sub-neg a b l) (quotient-fits b _ m p k))
     (λ l. rw (sub-pos a b l) (quotient-fits a b m p h))
 
-a-fits : (u y : ℕ) → Accepted u y → mag (indexA u y) < 2147483648
+a-fits : (u y : ℕ) → Passes u y → mag (indexA u y) < 2147483648
 unfolding indexA
 a-fits u y a =
     let b = bounds y (a .least) (a .most) in
@@ -59,7 +62,7 @@ numerators k p P = go (showsMost P (100 * k + 50))
     go true = (refl, refl)
     go false = (refl, refl)
 
-b-fits : (u y : ℕ) → Accepted u y → inUnits u < H-at y → Fits (answer.B (byB u y))
+b-fits : (u y : ℕ) → Passes u y → inUnits u < H-at y → Fits (answer.B (byB u y))
 unfolding byB lowerOfPair upperOfPair
 b-fits u y a l =
     let o = logarithms u y a l in
@@ -79,10 +82,10 @@ refused-fits u y n e = subst Fits (sym e) (record { index = omega arith; lower =
 pub fits : (u y : ℕ) → Fits (answerOf u y)
 fits u y =
     by-questions u y
-    (λ e. refused-fits u y 1 (finished-refused u y 1 e (omega arith)))
-    (λ e. refused-fits u y 2 (finished-refused u y 2 e (omega arith)))
-    (λ e. refused-fits u y 3 (finished-refused u y 3 e (omega arith)))
-    (λ e. refused-fits u y 4 (finished-refused u y 4 e (omega arith)))
+    (λ e. refused-fits u y 1 (answer-refused u y 1 e (omega arith)))
+    (λ e. refused-fits u y 2 (answer-refused u y 2 e (omega arith)))
+    (λ e. refused-fits u y 3 (answer-refused u y 3 e (omega arith)))
+    (λ e. refused-fits u y 4 (answer-refused u y 4 e (omega arith)))
     (λ a. by-order (inUnits u) (H-at y)
     (λ l. subst Fits (sym (answer-b u y a l)) (b-fits u y a l))
     (λ h. subst Fits (sym (answer-a u y a h)) (record { index = a-fits u y a; lower = omega arith; upper = omega arith })))

@@ -1,8 +1,8 @@
 pub mod Difference
 pub mod Floor
 pub mod ProcedureA
-pub mod Accepted
-pub mod Deciding
+pub mod Questions
+pub mod Cases
 pub mod Constants
 pub mod Gap
 pub mod Numerators

@@ -6,6 +6,7 @@ use native.Mathlib.Omega.{arith}
 use native.Mathlib.Nat.{le-trans, le-of-eq, mul-assoc, mul-comm, mul-left-comm, mul-le-mul-right, pow-le-pow-left}
 use lib.Pow.{pow-add}
 use Rattle.laws.proofs.Powers.{mul-pow, pow-one}
+use Rattle.reference.specs.Viscosity.{inUnits}
 use Rattle.reference.specs.Basis.{H-at}
 use Rattle.reference.proofs.Bounds.{bounds}
 use Rattle.reference.proofs.Range.{range, ratio}
@@ -14,9 +15,8 @@ use Rattle.logarithm.specs.Log2.{log2Of, InRange, Enclosed}
 use Rattle.logarithm.proofs.Log2.{log2-enclosed}
 use Rattle.logarithm.proofs.Rise.{log2-rises}
 use Rattle.logarithm.proofs.FromLogarithms.{logs-le, one-above, one-below}
-use Rattle.index.specs.ProcedureA.{inUnits}
+use Rattle.index.specs.Questions.{Passes}
 use Rattle.index.specs.Chosen.{log1000}
-use Rattle.index.proofs.Accepted.{Accepted}
 use Rattle.index.proofs.Constants.{thousand, two-below, one-two-eight-above}
 use Rattle.index.proofs.Numerators.{Logarithms}
 
@@ -30,7 +30,7 @@ sixth-power y U H h l =
     spread : (a b c g h k : ℕ) → a ≡ b * c → k ≡ g * h → g * a * h ≡ b * k * c
     spread a b c g h k e f = rw (e, f) (simp (mul-assoc, mul-comm, mul-left-comm))
 
-module _ (u y : ℕ) (a : Accepted u y) (below : inUnits u < H-at y) where
+module _ (u y : ℕ) (a : Passes u y) (below : inUnits u < H-at y) where
   pub y-range : InRange y
   y-range = record { least = omega (arith, a .least); most = omega (arith, a .most) }
 

@@ -3,37 +3,33 @@
 use Prim.Native.Nat.{ℕ, _<_}
 use mathlib.Core.Path.{_≡_, sym, _∙_, ap, ap₂, subst}
 use native.Mathlib.Omega.{arith}
+use Rattle.reference.specs.Viscosity.{inUnits}
 use Rattle.reference.specs.Basis.{H-at}
 use Rattle.logarithm.specs.Log2.{log2Of, InRange}
 use Rattle.index.specs.declared.Oil.{Oil}
-use Rattle.index.specs.ProcedureA.{inUnits}
-use Rattle.index.specs.Chosen.{InBounds, lowerFrom, upperFrom, lowerOfPair, upperOfPair, wholeOf, markedOf, byB, Found, BelowH}
-use Rattle.index.proofs.Accepted.{Accepted, accepted}
+use Rattle.index.specs.Chosen.{InBounds, lowerFrom, upperFrom, lowerOfPair, upperOfPair, wholeOf, markedOf, byB, Found, OilBelowH}
 use Rattle.index.proofs.Numerators.{Logarithms, in-bounds, few, upper}
 use Rattle.index.proofs.OilLogarithms as logarithms
 
-module _ (oil : Oil) (b : BelowH oil) where
-  passed : Accepted (oil .u) (oil .y)
-  passed = accepted (oil .u) (oil .y) (b .accepted)
-
+module _ (oil : Oil) (b : OilBelowH oil) where
   below : inUnits (oil .u) < H-at (oil .y)
   below = omega (arith, b .below, b .h-is)
 
   pub y-range : InRange (oil .y)
-  y-range = logarithms.y-range (oil .u) (oil .y) passed below
+  y-range = logarithms.y-range (oil .u) (oil .y) (b .passes) below
 
   pub U-range : InRange (inUnits (oil .u))
-  U-range = logarithms.U-range (oil .u) (oil .y) passed below
+  U-range = logarithms.U-range (oil .u) (oil .y) (b .passes) below
 
   pub h-range : InRange (oil .h)
-  h-range = subst InRange (sym (b .h-is)) (logarithms.H-range (oil .u) (oil .y) passed below)
+  h-range = subst InRange (sym (b .h-is)) (logarithms.H-range (oil .u) (oil .y) (b .passes) below)
 
   module _ (ly lU lH : ℕ) (ey : ly ≡ log2Of (oil .y)) (eU : lU ≡ log2Of (inUnits (oil .u))) (eH : lH ≡ log2Of (oil .h)) where
     eH′ : lH ≡ log2Of (H-at (oil .y))
     eH′ = eH ∙ ap log2Of (b .h-is)
 
     found : Logarithms (oil .y) (inUnits (oil .u)) (H-at (oil .y)) ly lU lH
-    found = rw (ey, eU, eH′) (logarithms.logarithms (oil .u) (oil .y) passed below)
+    found = rw (ey, eU, eH′) (logarithms.logarithms (oil .u) (oil .y) (b .passes) below)
 
     pub bounded : InBounds ly lU lH
     bounded = in-bounds _ _ _ _ _ _ found

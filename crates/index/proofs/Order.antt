@@ -8,6 +8,7 @@ use native.Mathlib.Nat.{mul-le-mul-left}
 use lib.Signed.{_≤ℤ_}
 use borrow.Author.Tests.{le-leb, lt-leb}
 use Rattle.laws.proofs.Order.{by-order}
+use Rattle.reference.specs.Viscosity.{inUnits}
 use Rattle.reference.specs.Basis.{H-at}
 use Rattle.reference.proofs.Bounds.{bounds}
 use Rattle.logarithm.specs.Scale.{width}
@@ -16,19 +17,19 @@ use Rattle.logarithm.proofs.Rise.{log2-rises}
 use Rattle.index.specs.declared.Mark.the-variants as mark
 use Rattle.index.specs.declared.ByB.{ByB}
 use Rattle.index.specs.declared.Answer.{Answer}
-use Rattle.index.specs.Questions.{refusal}
-use Rattle.index.specs.ProcedureA.{inUnits}
+use Rattle.index.specs.Questions.{refusal, Passes}
 use Rattle.index.specs.Answer.{indexOf}
 use Rattle.index.specs.Chosen.{parts, log1000, showsMost, lowerFrom, upperFrom, lowerOfPair, upperOfPair, made, markedOf, byB, answerOf}
 use Rattle.index.proofs.Difference.{pos-le, order-joins}
 use Rattle.index.proofs.Floor.{quotient-le}
 use Rattle.index.proofs.ProcedureA.{index-falls, index-most}
-use Rattle.index.proofs.Accepted.{Accepted, accepted}
+use Rattle.index.proofs.Questions.{passed}
 use Rattle.index.proofs.Numerators.{few}
 use Rattle.index.proofs.Tests.{least-easier, most-easier}
 use Rattle.index.proofs.Halving.{Bracket, whole, clash}
 use Rattle.index.proofs.OilLogarithms.{logarithms}
-use Rattle.index.proofs.Right.{answer-a, answer-b, by-b-right}
+use Rattle.index.proofs.Cases.{answer-a, answer-b}
+use Rattle.index.proofs.Right.{by-b-right}
 
 -- ---- the numerators fall as the logarithm of U rises
 
@@ -81,7 +82,7 @@ module _ (p q P R k n : ℕ) (l : q ≤ p) (h : R ≤ P) (a : Bracket p k (k + 1
       go false true e f = omega (arith, no-more)
       go false false e f = omega (arith, no-more)
 
-b-falls : (u v y : ℕ) → u ≤ v → Accepted u y → Accepted v y → inUnits v < H-at y → byB v y .index ≤ byB u y .index
+b-falls : (u v y : ℕ) → u ≤ v → Passes u y → Passes v y → inUnits v < H-at y → byB v y .index ≤ byB u y .index
 unfolding byB lowerOfPair upperOfPair
 b-falls u v y h a b below =
     let o = logarithms u y a (omega arith) in
@@ -99,8 +100,8 @@ b-falls u v y h a b below =
 
 pub never-rises : (u v y : ℕ) → u ≤ v → refusal u y ≡ 0 → refusal v y ≡ 0 → indexOf (answerOf v y) ≤ℤ indexOf (answerOf u y)
 never-rises u v y h e f =
-    let a = accepted u y e in
-    let b = accepted v y f in
+    let a = passed u y e in
+    let b = passed v y f in
     by-order (inUnits v) (H-at y)
     (λ l. subst₂ (λ (x z : Answer). indexOf x ≤ℤ indexOf z) (sym (answer-b v y b l)) (sym (answer-b u y a (omega arith)))
     (pos-le (byB v y .index) (byB u y .index) (b-falls u v y h a b l)))

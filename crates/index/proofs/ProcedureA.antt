@@ -8,10 +8,10 @@ use lib.Signed.{_≤ℤ_}
 use native.Mathlib.Omega.{arith}
 use native.Mathlib.Nat.{le-trans, div-lt-iff-lt-mul}
 use Rattle.laws.proofs.Order.{by-order}
-use Rattle.reference.specs.Viscosity.{least100, greatest100}
+use Rattle.reference.specs.Viscosity.{least100, greatest100, inUnits}
 use Rattle.reference.specs.Basis.{L-at, H-at}
 use Rattle.reference.proofs.Bounds.{bounds}
-use Rattle.index.specs.ProcedureA.{inUnits, floorDiv, roundedA, indexA}
+use Rattle.index.specs.ProcedureA.{floorDiv, roundedA, indexA}
 use Rattle.index.proofs.Difference.{sub-pos, sub-neg, sub-same, sub-falls, pos-less, times-neg, pos-le}
 use Rattle.index.proofs.Floor.{quotient-le, floor-le}
 

@@ -5,17 +5,18 @@ use mathlib.Core.Path.{_≡_, refl, sym, ap, subst}
 use mathlib.Core.Bool.{Bool, true, false, cond}
 use native.Mathlib.Omega.{arith}
 use Rattle.laws.proofs.Order.{by-order}
+use Rattle.reference.specs.Viscosity.{inUnits}
 use Rattle.reference.specs.Basis.{H-at}
 use Rattle.logarithm.specs.Log2.{log2Of}
 use Rattle.index.specs.declared.Mark.the-variants as mark
 use Rattle.index.specs.declared.Answer.the-variants as answer
-use Rattle.index.specs.Questions.{refusal}
-use Rattle.index.specs.ProcedureA.{inUnits, indexA}
+use Rattle.index.specs.Questions.{refusal, Passes}
+use Rattle.index.specs.ProcedureA.{indexA}
 use Rattle.index.specs.ProcedureB.{Q, AtLeast, AtMost, SettledAt, NearAt}
 use Rattle.index.specs.Answer.{RightB, RightAnswer}
-use Rattle.index.specs.Chosen.{mostLower, showsLeast, showsMost, lowerOfPair, upperOfPair, made, markedOf, byB, finishedOf, answerOf}
-use Rattle.index.proofs.Accepted.{Accepted, by-questions, passes}
-use Rattle.index.proofs.Deciding.{decided-refused, decided-below, decided-a}
+use Rattle.index.specs.Chosen.{mostLower, showsLeast, showsMost, lowerOfPair, upperOfPair, made, markedOf, byB, answerOf}
+use Rattle.index.proofs.Questions.{by-questions, none-refuses}
+use Rattle.index.proofs.Cases.{answer-refused, answer-a, answer-b}
 use Rattle.index.proofs.Numerators.{few, lower-shows, upper, upper-shows}
 use Rattle.index.proofs.Tests.{least-shows, most-shows, beside-least, beside-most}
 use Rattle.index.proofs.Halving.{Bracket, whole}
@@ -62,7 +63,7 @@ module _ (u y p P k : ℕ) (below : inUnits u < H-at y)
       go true e = record { below = below; least = b .least; most = omega (arith, b .most); marked = settled e }
       go false e = record { below = below; least = omega (arith, b .least); most = b .most; marked = near e }
 
-pub by-b-right : (u y : ℕ) → Accepted u y → inUnits u < H-at y → RightB u y (byB u y)
+pub by-b-right : (u y : ℕ) → Passes u y → inUnits u < H-at y → RightB u y (byB u y)
 unfolding byB lowerOfPair upperOfPair
 by-b-right u y a l =
     let o = logarithms u y a l in
@@ -75,20 +76,8 @@ by-b-right u y a l =
 
 -- ---- every pair
 
-pub finished-refused : (u y n : ℕ) → refusal u y ≡ n → 0 < n → answerOf u y ≡ answer.Refused n
-unfolding answerOf finishedOf
-finished-refused u y n e p = ap finishedOf (decided-refused u y n e p)
-
-pub answer-a : (u y : ℕ) → Accepted u y → H-at y ≤ inUnits u → answerOf u y ≡ answer.A (indexA u y)
-unfolding answerOf finishedOf
-answer-a u y a l = ap finishedOf (decided-a u y a l)
-
-pub answer-b : (u y : ℕ) → Accepted u y → inUnits u < H-at y → answerOf u y ≡ answer.B (byB u y)
-unfolding answerOf finishedOf
-answer-b u y a l = ap finishedOf (decided-below u y a l)
-
 refused-right : (u y n : ℕ) → refusal u y ≡ n → 0 < n → RightAnswer u y (answerOf u y)
-refused-right u y n e p = subst (RightAnswer u y) (sym (finished-refused u y n e p)) (record { number = sym e; case = p })
+refused-right u y n e p = subst (RightAnswer u y) (sym (answer-refused u y n e p)) (record { number = sym e; case = p })
 
 pub right : (u y : ℕ) → RightAnswer u y (answerOf u y)
 right u y =
@@ -98,5 +87,5 @@ right u y =
     (λ e. refused-right u y 3 e (omega arith))
     (λ e. refused-right u y 4 e (omega arith))
     (λ a. by-order (inUnits u) (H-at y)
-    (λ l. subst (RightAnswer u y) (sym (answer-b u y a l)) (record { number = sym (passes u y a); case = by-b-right u y a l }))
-    (λ h. subst (RightAnswer u y) (sym (answer-a u y a h)) (record { number = sym (passes u y a); case = (h, refl) })))
+    (λ l. subst (RightAnswer u y) (sym (answer-b u y a l)) (record { number = sym (none-refuses u y a); case = by-b-right u y a l }))
+    (λ h. subst (RightAnswer u y) (sym (answer-a u y a h)) (record { number = sym (none-refuses u y a); case = (h, refl) })))

@@ -4,6 +4,7 @@
 use mathlib.Core.Path.{_≡_}
 use Prim.Native.Nat.{ℕ, _<_, _≤_}
 use lib.IntN.{ℤ, pos}
+use Rattle.reference.specs.Viscosity.{inUnits}
 use Rattle.reference.specs.Basis.{H-at}
 use Rattle.index.specs.declared.Mark.{Mark}
 use Rattle.index.specs.declared.Mark.the-variants as mark
@@ -11,7 +12,7 @@ use Rattle.index.specs.declared.ByB.{ByB}
 use Rattle.index.specs.declared.Answer.{Answer}
 use Rattle.index.specs.declared.Answer.the-variants.{Refused, A, B}
 use Rattle.index.specs.Questions.{refusal}
-use Rattle.index.specs.ProcedureA.{inUnits, indexA}
+use Rattle.index.specs.ProcedureA.{indexA}
 use Rattle.index.specs.ProcedureB.{Marked}
 
 -- the number of the question that refused the pair, 0 where it is answered

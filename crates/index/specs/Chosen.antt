@@ -6,6 +6,7 @@ use Prim.Native.Nat.{ℕ, zero, suc, _+_, _*_, _-_, _/_, _<_, _≤_}
 use mathlib.Core.Path.{_≡_}
 use mathlib.Core.Bool.{Bool, cond}
 use lib.Dec.{ltb, leb, eqb}
+use Rattle.reference.specs.Viscosity.{inUnits}
 use Rattle.reference.specs.Basis.{H-at}
 use Rattle.logarithm.specs.Scale.{scaleNumber, width, bound}
 use Rattle.logarithm.specs.Log2.{log2Of}
@@ -15,12 +16,10 @@ use Rattle.index.specs.declared.Trial.{Trial}
 use Rattle.index.specs.declared.Trial.the-variants as trial
 use Rattle.index.specs.declared.Oil.{Oil}
 use Rattle.index.specs.declared.ByB.{ByB}
-use Rattle.index.specs.declared.Decided.{Decided}
-use Rattle.index.specs.declared.Decided.the-variants as decided
 use Rattle.index.specs.declared.Answer.{Answer}
 use Rattle.index.specs.declared.Answer.the-variants as answer
-use Rattle.index.specs.Questions.{refusal}
-use Rattle.index.specs.ProcedureA.{inUnits, indexA}
+use Rattle.index.specs.Questions.{refusal, Passes}
+use Rattle.index.specs.ProcedureA.{indexA}
 use Rattle.index.specs.ProcedureB.{c}
 
 -- ---- the numbers that the code holds
@@ -121,22 +120,14 @@ byB u y = markedOf (wholeOf (lowerOfPair u y)) (lowerOfPair u y) (upperOfPair u 
 -- ---- the answer
 
 -- an oil below H: its pair passes the questions, h is H, and U is below it
-pub record BelowH (oil : Oil) : Type 0 where
-  pub accepted : refusal (oil .u) (oil .y) ≡ 0
+pub record OilBelowH (oil : Oil) : Type 0 where
+  pub passes : Passes (oil .u) (oil .y)
   pub h-is : oil .h ≡ H-at (oil .y)
   pub below : inUnits (oil .u) < oil .h
 
--- a pair before procedure B: refused, answered by procedure A, or an oil below H
-unfoldable pub decidedOf : ℕ → ℕ → Decided
-decidedOf u y =
-    cond (eqb (refusal u y) 0)
-    (cond (ltb (inUnits u) (H-at y)) (decided.BelowH (record { u = u; y = y; h = H-at y })) (decided.A (indexA u y)))
-    (decided.Refused (refusal u y))
-
-unfoldable pub finishedOf : Decided → Answer
-finishedOf (decided.Refused number) = answer.Refused number
-finishedOf (decided.A index) = answer.A index
-finishedOf (decided.BelowH oil) = answer.B (byB (oil .u) (oil .y))
-
+-- the answer to a pair: refused, by procedure B where U is below H, or by procedure A
 unfoldable pub answerOf : ℕ → ℕ → Answer
-answerOf u y = finishedOf (decidedOf u y)
+answerOf u y =
+    cond (eqb (refusal u y) 0)
+    (cond (ltb (inUnits u) (H-at y)) (answer.B (byB u y)) (answer.A (indexA u y)))
+    (answer.Refused (refusal u y))

@@ -4,10 +4,10 @@
 use Prim.Native.Nat.{_*_, _-_}
 use mathlib.Core.Path.{_≡_}
 use lib.IntN.{pos, negsuc}
+use Rattle.reference.specs.Viscosity.{inUnits}
 use Rattle.reference.specs.Basis.{L-at, H-at}
 use Rattle.reference.specs.Examples.{StarredBasis}
 use Rattle.index.specs.declared.Answer.the-variants.{A}
-use Rattle.index.specs.ProcedureA.{inUnits}
 use Rattle.index.specs.Chosen.{answerOf}
 
 -- a negative number is `negsuc n`, which is −(n + 1)

@@ -3,11 +3,8 @@
 -- Assumes nothing.
 use Prim.Native.Nat.{ℕ, _*_, _-_, _/_}
 use lib.IntN.{ℤ, pos, negsuc, _+ℤ_, _-ℤ_, _*ℤ_}
+use Rattle.reference.specs.Viscosity.{inUnits}
 use Rattle.reference.specs.Basis.{L-at, H-at}
-
--- u in the units of L and H, 10^-10 mm²/s: the paper's U
-abbrev pub inUnits : ℕ → ℕ
-inUnits u = u * 10000000
 
 -- z / d rounded down: the greatest whole number that is not above it
 abbrev pub floorDiv : ℤ → ℕ → ℤ
@@ -22,6 +19,6 @@ nearest z d = floorDiv (pos 2 *ℤ z +ℤ pos d) (2 * d)
 unfoldable pub roundedA : ℕ → ℕ → ℕ → ℤ
 roundedA l h u = nearest (pos 100 *ℤ (pos l -ℤ pos u)) (l - h)
 
--- the index of a pair
+-- the index of a pair; the paper's U, u in the units of L and H, is `inUnits u`
 unfoldable pub indexA : ℕ → ℕ → ℤ
 indexA u y = roundedA (L-at y) (H-at y) (inUnits u)

@@ -3,8 +3,8 @@
 -- Assumes nothing.
 use mathlib.Core.Path.{_≡_, refl}
 use Prim.Native.Nat.{ℕ, _+_, _*_, _-_, _^_, _≤_}
+use Rattle.reference.specs.Viscosity.{inUnits}
 use Rattle.reference.specs.Basis.{H-at}
-use Rattle.index.specs.ProcedureA.{inUnits}
 use Rattle.index.specs.declared.Mark.{Mark}
 use Rattle.index.specs.declared.Mark.the-variants as mark
 

@@ -6,29 +6,29 @@
 // k − 0.5 and not k + 0.5: it is guessed from p, confirmed by a table of thresholds or tried, and searched by halving where the guess was wrong.
 // If P shows at most k + 0.5, k is settled; otherwise the index is so close to k + 0.5 that it is near k + 1. All is done on 64-bit whole numbers.
 //
-// The functions that calculate are lent the tables; `answer_pair` copies those that it needs, and a caller with many pairs copies them once and
-// calls `answer_lent`.
+// The functions that calculate are lent the tables; `answer_pair` copies those that its pair needs, and a caller with many pairs copies them once
+// and calls `answer_lent`.
 ghost use mathlib.Core.Path.{_≡_};
 ghost use mathlib.Core.Bool.{true};
 ghost use Prim.Native.Nat.{_<_, _≤_, _+_, _*_, _-_, _/_};
 ghost use lib.Dec.{leb};
 ghost use lib.IntN.{pos, negsuc, subℕ};
-ghost use Rattle.reference.specs.Table1.{table1};
 ghost use Rattle.reference.specs.Viscosity.{least100, greatest100, greatest40};
 ghost use Rattle.logarithm.specs.Scale.{scaleNumber, width, bound};
 ghost use Rattle.logarithm.specs.Log2 as logarithm;
 ghost use Rattle.logarithm.specs.Log2.{log2Of};
+ghost use Rattle.index.specs.Questions.{Passes, askedOf};
 ghost use Rattle.index.specs.ProcedureA.{floorDiv, roundedA};
 ghost use Rattle.index.specs.ProcedureB.{c};
 ghost use Rattle.index.specs.Answer.{RightAnswer};
 ghost use Rattle.index.specs.Lent.{Lent};
 ghost use Rattle.index.specs.Thresholds.{thresholds as thresholdList};
-ghost use Rattle.index.specs.Chosen.{parts, mostLower, mostUpper, log10, log1000, log10000000, InBounds, LogOfC, lowerFrom, upperFrom, showsLeast, showsMost, wholeOf, made, markedOf, trialOf, byB, Found, BelowH, decidedOf, answerOf};
+ghost use Rattle.index.specs.Chosen.{parts, mostLower, mostUpper, log10, log1000, log10000000, InBounds, LogOfC, lowerFrom, upperFrom, showsLeast, showsMost, wholeOf, made, markedOf, trialOf, byB, Found, OilBelowH, answerOf};
 use reference::Asked40;
 use reference::Asked100;
 use reference::Kv40;
 use reference::Kv100;
-use reference::table1::TABLE1;
+use threshold_table::THRESHOLDS;
 
 pub mod threshold_table;
 
@@ -61,11 +61,16 @@ pub struct Oil {
     pub h: u64,
 }
 
-// A pair before procedure B: refused, answered by procedure A, or an oil below H.
-pub enum Decided {
+// A pair whose viscosities are within their limits.
+pub struct Pair {
+    pub u: Kv40,
+    pub y: Kv100,
+}
+
+// What questions 1 to 4 say of a pair: refused by the question of that number, or passed.
+pub enum Asked {
     Refused(u8),
-    A(i32),
-    BelowH(Oil),
+    Passed(Pair),
 }
 
 // What trying k says of the index: k is settled, k + 1 is near, the index is higher, or it is lower.
@@ -74,6 +79,32 @@ pub enum Trial {
     Near,
     Higher,
     Lower,
+}
+
+// ---- the questions
+
+// Questions 1 to 4: the constructors of the two viscosities ask the first three.
+fn ask(u: u32, y: u32) -> Asked
+    ensures { λ r. ⌜ r ≡ askedOf u y ⌝ }
+{
+    match Kv100::new(y) {
+        Asked100::Refused(number) => Asked::Refused(number),
+        Asked100::Within(at100) => match Kv40::new(u) {
+            Asked40::Refused(number) => Asked::Refused(number),
+            Asked40::Within(at40) => ask_which_is_greater(at40, at100),
+        },
+    }
+}
+
+// Question 4.
+fn ask_which_is_greater(u: Kv40, y: Kv100) -> Asked
+    requires { ⌜ (least100 ≤ y .thousandths) × (y .thousandths ≤ greatest100) × (u .thousandths ≤ greatest40) ⌝ }
+    ensures { λ r. ⌜ r ≡ askedOf (u .thousandths) (y .thousandths) ⌝ }
+{
+    if u.thousandths <= y.thousandths {
+        return Asked::Refused(4);
+    }
+    Asked::Passed(Pair { u, y })
 }
 
 // ---- procedure A
@@ -104,41 +135,6 @@ fn rounded_a(l: u64, h: u64, u: u64) -> i32
 {
     let gap = l - h;
     floor_quotient(200 * l + gap, 200 * u, 2 * gap)
-}
-
-// ---- the questions, and which procedure
-
-// A pair whose viscosities are within their limits: question 4, then H, then procedure A or an oil below H.
-fn decide_within(rows: &[u32; 622], u: Kv40, y: Kv100) -> Decided
-    requires lent { ⌜ now rows ≡ table1 ⌝ }
-    requires { ⌜ (least100 ≤ y .thousandths) × (y .thousandths ≤ greatest100) × (u .thousandths ≤ greatest40) ⌝ }
-    ensures { λ r. ⌜ r ≡ decidedOf (u .thousandths) (y .thousandths) ⌝ }
-{
-    let t = u.thousandths;
-    let x = y.thousandths;
-    if t <= x {
-        return Decided::Refused(4);
-    }
-    let h = reference::h_at(rows, y);
-    let units = (t as u64) * 10_000_000;
-    if units < h {
-        return Decided::BelowH(Oil { u: t, y: x, h });
-    }
-    let l = reference::l_at(rows, y);
-    Decided::A(rounded_a(l, h, units))
-}
-
-fn decide(rows: &[u32; 622], u: u32, y: u32) -> Decided
-    requires lent { ⌜ now rows ≡ table1 ⌝ }
-    ensures { λ r. ⌜ r ≡ decidedOf u y ⌝ }
-{
-    match Kv100::new(y) {
-        Asked100::Refused(number) => Decided::Refused(number),
-        Asked100::Within(at100) => match Kv40::new(u) {
-            Asked40::Refused(number) => Decided::Refused(number),
-            Asked40::Within(at40) => decide_within(rows, at40, at100),
-        },
-    }
 }
 
 // ---- procedure B
@@ -398,44 +394,88 @@ struct Fractions {
 // p and P of an oil below H.
 fn fractions_of(first: &[u64; 256], second: &[u64; 256], oil: Oil) -> Fractions
     requires lent { ⌜ logarithm.Lent (now first) (now second) ⌝ }
-    requires { ⌜ BelowH oil ⌝ }
+    requires { ⌜ OilBelowH oil ⌝ }
     ensures { λ r. ⌜ Found (oil .u) (oil .y) (r .lower) (r .upper) ⌝ }
 {
     let ly = logarithm::log2_scaled(first, second, oil.y as u64);
-    let lu = logarithm::log2_scaled(first, second, (oil.u as u64) * 10_000_000);
+    let lu = logarithm::log2_scaled(first, second, reference::in_units(oil.u));
     let lh = logarithm::log2_scaled(first, second, oil.h);
     let lower = lower_numerator(ly, lu, lh);
     let upper = upper_numerator(ly, lu, lh, lower);
     Fractions { lower, upper }
 }
 
-// Procedure B for an oil below H, without the table of thresholds: for one pair it costs more to copy than it saves.
-fn procedure_b(first: &[u64; 256], second: &[u64; 256], oil: Oil) -> ByB
-    requires lent { ⌜ logarithm.Lent (now first) (now second) ⌝ }
-    requires { ⌜ BelowH oil ⌝ }
-    ensures { λ r. ⌜ r ≡ byB (oil .u) (oil .y) ⌝ }
-{
-    let n = fractions_of(first, second, oil);
-    index_of(first, second, n.lower, n.upper)
-}
-
-// Procedure B for an oil below H, with it.
-fn procedure_b_lent(
-    first: &[u64; 256],
-    second: &[u64; 256],
-    thresholds: &[u32; 257],
-    oil: Oil,
-) -> ByB
+// Procedure B for an oil below H.
+fn procedure_b(first: &[u64; 256], second: &[u64; 256], thresholds: &[u32; 257], oil: Oil) -> ByB
     requires lent { ⌜ logarithm.Lent (now first) (now second) ⌝ }
     requires halves { ⌜ now thresholds ≡ thresholdList ⌝ }
-    requires { ⌜ BelowH oil ⌝ }
+    requires { ⌜ OilBelowH oil ⌝ }
     ensures { λ r. ⌜ r ≡ byB (oil .u) (oil .y) ⌝ }
 {
     let n = fractions_of(first, second, oil);
     index_by_thresholds(first, second, thresholds, n.lower, n.upper)
 }
 
+// The same for one oil: the tables are copied for it.
+fn procedure_b_alone(oil: Oil) -> ByB
+    requires { ⌜ OilBelowH oil ⌝ }
+    ensures { λ r. ⌜ r ≡ byB (oil .u) (oil .y) ⌝ }
+{
+    let first = logarithm::first_table();
+    let second = logarithm::second_table();
+    let thresholds = THRESHOLDS;
+    procedure_b(&first, &second, &thresholds, oil)
+}
+
 // ---- the pair
+
+// The answer to a pair that passes the questions, with lent tables. Procedure B needs no L, so H comes first.
+fn answer_passed(
+    rows: &[u32; 622],
+    first: &[u64; 256],
+    second: &[u64; 256],
+    thresholds: &[u32; 257],
+    pair: Pair,
+) -> Answer
+    requires lent { ⌜ Lent (now rows) (now first) (now second) (now thresholds) ⌝ }
+    requires { ⌜ Passes (pair .u .thousandths) (pair .y .thousandths) ⌝ }
+    ensures { λ r. ⌜ r ≡ answerOf (pair .u .thousandths) (pair .y .thousandths) ⌝ }
+{
+    let u = pair.u.thousandths;
+    let y = pair.y;
+    let h = reference::h_at(rows, y);
+    let units = reference::in_units(u);
+    if units < h {
+        let oil = Oil {
+            u,
+            y: y.thousandths,
+            h,
+        };
+        return Answer::B(procedure_b(first, second, thresholds, oil));
+    }
+    let l = reference::l_at(rows, y);
+    Answer::A(rounded_a(l, h, units))
+}
+
+// The same for one pair: of the tables, those are copied that it needs.
+fn answer_alone(pair: Pair) -> Answer
+    requires { ⌜ Passes (pair .u .thousandths) (pair .y .thousandths) ⌝ }
+    ensures { λ r. ⌜ r ≡ answerOf (pair .u .thousandths) (pair .y .thousandths) ⌝ }
+{
+    let u = pair.u.thousandths;
+    let y = pair.y;
+    let oils = reference::basis_of(y);
+    let units = reference::in_units(u);
+    if units < oils.h {
+        let oil = Oil {
+            u,
+            y: y.thousandths,
+            h: oils.h,
+        };
+        return Answer::B(procedure_b_alone(oil));
+    }
+    Answer::A(rounded_a(oils.l, oils.h, units))
+}
 
 // The answer to a pair, with lent tables: for a caller with many pairs.
 pub fn answer_lent(
@@ -449,26 +489,19 @@ pub fn answer_lent(
     requires lent { ⌜ Lent (now rows) (now first) (now second) (now thresholds) ⌝ }
     ensures { λ r. ⌜ r ≡ answerOf u y ⌝ }
 {
-    match decide(rows, u, y) {
-        Decided::Refused(number) => Answer::Refused(number),
-        Decided::A(index) => Answer::A(index),
-        Decided::BelowH(oil) => Answer::B(procedure_b_lent(first, second, thresholds, oil)),
+    match ask(u, y) {
+        Asked::Refused(number) => Answer::Refused(number),
+        Asked::Passed(pair) => answer_passed(rows, first, second, thresholds, pair),
     }
 }
 
-// The pair operation: the answer to any two numbers. The tables of logarithms are copied only for an oil below H.
+// The pair operation: the answer to any two numbers.
 pub fn answer_pair(u: u32, y: u32) -> Answer
     ensures value { λ r. ⌜ r ≡ answerOf u y ⌝ }
     ensures right { λ r. ⌜ RightAnswer u y r ⌝ }
 {
-    let rows = TABLE1;
-    match decide(&rows, u, y) {
-        Decided::Refused(number) => Answer::Refused(number),
-        Decided::A(index) => Answer::A(index),
-        Decided::BelowH(oil) => {
-            let first = logarithm::first_table();
-            let second = logarithm::second_table();
-            Answer::B(procedure_b(&first, &second, oil))
-        }
+    match ask(u, y) {
+        Asked::Refused(number) => Answer::Refused(number),
+        Asked::Passed(pair) => answer_alone(pair),
     }
 }

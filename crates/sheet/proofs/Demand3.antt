@@ -12,7 +12,7 @@ use Rattle.index.specs.declared.Mark.the-variants as mark
 use Rattle.index.specs.declared.Answer.{Answer}
 use Rattle.index.specs.declared.Answer.the-variants.{Refused, A, B}
 use Rattle.index.specs.Questions.{refusal}
-use Rattle.index.specs.ProcedureA.{inUnits}
+use Rattle.reference.specs.Viscosity.{inUnits}
 use Rattle.index.specs.ProcedureB.{SettledAt, NearAt, Marked}
 use Rattle.index.specs.Answer.{methodOfMark, methodOf, indexOf, lowerOf, upperOf, RightAnswer}
 use Rattle.index.proofs.Right.{right}

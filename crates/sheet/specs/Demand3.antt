@@ -11,7 +11,7 @@ use lib.Signed.{_≤ℤ_}
 use Rattle.reference.specs.Basis.{H-at}
 use Rattle.index.specs.declared.Mark.the-variants as mark
 use Rattle.index.specs.Questions.{refusal}
-use Rattle.index.specs.ProcedureA.{inUnits}
+use Rattle.reference.specs.Viscosity.{inUnits}
 use Rattle.index.specs.ProcedureB.{SettledAt, NearAt}
 use Rattle.index.specs.Answer.{methodOfMark, RightAnswer}
 use Rattle.index.specs.Chosen.{answerOf}

@@ -9,11 +9,12 @@ use Rattle.index.proofs.procedure_b.Tie as tie
 fractions-of-requires : tie.Need-fractions-of-requires
 fractions-of-requires c κs = search needs
 
-index-of-requires : tie.Need-index-of-requires
-index-of-requires c κs = search needs
+index-by-thresholds-requires : tie.Need-index-by-thresholds-requires
+index-by-thresholds-requires c κs = search needs
 
 returns : tie.Need-returns
-returns c = c .index-of .ensures ∙ by-b-is _ _ _ _ (c .before .fractions-of .ensures)
+returns c = c .index-by-thresholds .ensures ∙ by-b-is _ _ _ _ (c .before .fractions-of .ensures)
 
 pub procedure-b-spec : {M : Type 1} → statement M
-procedure-b-spec = tie.close (tie.spec fractions-of-requires index-of-requires returns)
+procedure-b-spec =
+    tie.close (tie.spec fractions-of-requires index-by-thresholds-requires returns)

@@ -6,13 +6,7 @@ use native.Mathlib.Omega.{arith}
 use borrow.Author.Tests.{le-leb, lt-leb, lt-ltb, le-ltb}
 use Rattle.laws.proofs.Order.{by-order}
 use Rattle.reference.specs.Viscosity.{least100, greatest100, greatest40}
-use Rattle.index.specs.Questions.{refusal}
-
-pub record Accepted (u y : ℕ) : Type 0 where
-  pub least : least100 ≤ y
-  pub most : y ≤ greatest100
-  pub thickest : u ≤ greatest40
-  pub thicker : y < u
+use Rattle.index.specs.Questions.{refusal, Passes}
 
 pub refused-1 : (u y : ℕ) → y < least100 → refusal u y ≡ 1
 refused-1 u y a = simp (lt-leb least100 y a)
@@ -26,18 +20,18 @@ refused-3 u y a b d = simp (le-leb least100 y a, le-leb y greatest100 b, lt-leb 
 pub refused-4 : (u y : ℕ) → least100 ≤ y → y ≤ greatest100 → u ≤ greatest40 → u ≤ y → refusal u y ≡ 4
 refused-4 u y a b d e = simp (le-leb least100 y a, le-leb y greatest100 b, le-leb u greatest40 d, le-ltb y u e)
 
-pub passes : (u y : ℕ) → Accepted u y → refusal u y ≡ 0
-passes u y a = simp (le-leb least100 y (a .least), le-leb y greatest100 (a .most), le-leb u greatest40 (a .thickest), lt-ltb y u (a .thicker))
+pub none-refuses : (u y : ℕ) → Passes u y → refusal u y ≡ 0
+none-refuses u y a = simp (le-leb least100 y (a .least), le-leb y greatest100 (a .most), le-leb u greatest40 (a .thickest), lt-ltb y u (a .thicker))
 
 -- the questions one after the other
 pub by-questions : {P : Type 0} (u y : ℕ) →
-    (refusal u y ≡ 1 → P) → (refusal u y ≡ 2 → P) → (refusal u y ≡ 3 → P) → (refusal u y ≡ 4 → P) → (Accepted u y → P) → P
+    (refusal u y ≡ 1 → P) → (refusal u y ≡ 2 → P) → (refusal u y ≡ 3 → P) → (refusal u y ≡ 4 → P) → (Passes u y → P) → P
 by-questions u y one two three four all =
     by-order y least100 (λ a. one (refused-1 u y a))
     (λ a. by-order greatest100 y (λ b. two (refused-2 u y a b))
     (λ b. by-order greatest40 u (λ d. three (refused-3 u y a b d))
     (λ d. by-order y u (λ e. all (record { least = a; most = b; thickest = d; thicker = e })) (λ e. four (refused-4 u y a b d e)))))
 
-pub accepted : (u y : ℕ) → refusal u y ≡ 0 → Accepted u y
-accepted u y e =
+pub passed : (u y : ℕ) → refusal u y ≡ 0 → Passes u y
+passed u y e =
     by-questions u y (λ f. absurd (omega arith)) (λ f. absurd (omega arith)) (λ f. absurd (omega arith)) (λ f. absurd (omega arith)) (λ a. a)

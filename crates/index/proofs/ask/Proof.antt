@@ -1,13 +1,13 @@
--- A pair: the constructors ask questions 1 to 3, in the order of the definition.
+-- The constructors ask questions 1 to 3, in the order of the definition.
 -- Assumes nothing.
 use mathlib.Core.Path.{sym, _∙_, ap₂}
 use native.Mathlib.Omega.{arith}
 use borrow.Author.Needs.{needs}
 use Rattle.reference.proofs.Asked.{within100, within40}
-use Rattle.index.specs.Chosen.{decidedOf}
-use Rattle.index.proofs.Deciding.{refused-at-100, refused-at-40}
-use Rattle.index.proofs.decide.Statement.{statement}
-use Rattle.index.proofs.decide.Tie as tie
+use Rattle.index.specs.Questions.{askedOf}
+use Rattle.index.proofs.Cases.{refused-at-100, refused-at-40}
+use Rattle.index.proofs.ask.Statement.{statement}
+use Rattle.index.proofs.ask.Tie as tie
 
 new-requires : tie.Need-new-requires
 new-requires c κs = search needs
@@ -27,13 +27,13 @@ enum-known-number-2 c = search needs
 enum-known-at40 : tie.Need-enum-known-at40
 enum-known-at40 c = search needs
 
-decide-within-requires : tie.Need-decide-within-requires
-decide-within-requires c κs =
+ask-which-is-greater-requires : tie.Need-ask-which-is-greater-requires
+ask-which-is-greater-requires c κs =
     let k = c .before .before .before .before .before in
     let s = k .before .before .before in
     let w = within100 (s .args .y) _ (sym (k .before .before .new .ensures .0) ∙ k .at100 .given .1) in
     let v = within40 (s .args .u) _ (sym (c .before .before .before .new2 .ensures .0) ∙ c .before .at40 .given .1) in
-    (s .pre, omega (arith, w, v))
+    omega (arith, w, v)
 
 returns : tie.Need-returns
 returns c =
@@ -53,10 +53,10 @@ returns-3 c =
     let s = k .before .before .before in
     let w = within100 (s .args .y) _ (sym (k .before .before .new .ensures .0) ∙ k .at100 .given .1) in
     let v = within40 (s .args .u) _ (sym (c .before .before .before .before .new2 .ensures .0) ∙ c .before .before .at40 .given .1) in
-    c .decide-within .ensures ∙ ap₂ decidedOf (v .same) (w .same)
+    c .ask-which-is-greater .ensures ∙ ap₂ askedOf (v .same) (w .same)
 
-pub decide-spec : {M : Type 1} → statement M
-decide-spec =
+pub ask-spec : {M : Type 1} → statement M
+ask-spec =
     tie.close
     (tie.spec
     new-requires
@@ -65,7 +65,7 @@ decide-spec =
     new-requires-2
     enum-known-number-2
     enum-known-at40
-    decide-within-requires
+    ask-which-is-greater-requires
     returns
     returns-2
     returns-3)
