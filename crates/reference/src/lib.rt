@@ -87,26 +87,25 @@ pub struct Place {
     pub share: u32,
 }
 
-// The row at or below y and the place within its spacing. The rows are 100, 200 or 500 thousandths apart; measured in
-// thousandths of that spacing, y stands `along` past a row 0, so that one division serves all three.
+// The smaller of two numbers.
+fn smaller(a: u32, b: u32) -> u32
+    ensures { λ r. ⌜ (a ≤ b → r ≡ a) × (b ≤ a → r ≡ b) ⌝ }
+{
+    if a < b {
+        return a;
+    }
+    b
+}
+
+// The row at or below y and the place within its spacing. The rows are 100, 200 or 500 thousandths apart; measured in thousandths of that
+// spacing, y stands 10·y − 20,000, 5·y + 80,000 or 2·y + 170,000 past row 0. The spacing grows with y, so each of the three is the least
+// where it counts, and one division serves all of them.
 fn locate(y: u32) -> Place
     requires { ⌜ (least100 ≤ y) × (y ≤ lastRow) ⌝ }
     ensures { λ r. ⌜ r ≡ placeOf y ⌝ }
 {
-    if y < 20_000 {
-        return place_along(10 * y - 20_000);
-    }
-    if y < 30_000 {
-        return place_along(5 * y + 80_000);
-    }
-    place_along(2 * y + 170_000)
-}
-
-// The place `along` thousandths of a spacing past row 0.
-fn place_along(along: u32) -> Place
-    requires { ⌜ along < 311000 ⌝ }
-    ensures { λ r. ⌜ (r .row ≡ along / 1000) × (r .share ≡ along % 1000) ⌝ }
-{
+    let from_20 = smaller(5 * y + 80_000, 2 * y + 170_000);
+    let along = smaller(10 * y - 20_000, from_20);
     Place {
         row: (along / 1_000) as usize,
         share: along % 1_000,

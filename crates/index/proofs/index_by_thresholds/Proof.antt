@@ -8,8 +8,8 @@ use Rattle.index.specs.Chosen.{markedOf}
 use Rattle.index.proofs.index_by_thresholds.Statement.{statement}
 use Rattle.index.proofs.index_by_thresholds.Tie as tie
 
-guess-requires : tie.Need-guess-requires
-guess-requires c κs = search needs
+guess-to-355-requires : tie.Need-guess-to-355-requires
+guess-to-355-requires c κs = search needs
 
 settled-by-thresholds-requires : tie.Need-settled-by-thresholds-requires
 settled-by-thresholds-requires c κs = search needs
@@ -21,8 +21,8 @@ returns : tie.Need-returns
 returns c =
     let g = c .before .before .before in
     let s = g .before in
-    let k = g .guess .result in
-    let t = tried-settled k (s .args .p) (s .args .upper) (g .guess .ensures .0) (g .guess .ensures .1) (c .before .before .settled-by-thresholds .ensures (c .before .if1 .taken)) in
+    let k = g .guess-to-355 .result in
+    let t = tried-settled k (s .args .p) (s .args .upper) (g .guess-to-355 .ensures .0) (g .guess-to-355 .ensures .1) (c .before .before .settled-by-thresholds .ensures (c .before .if1 .taken)) in
     c .by-b .ensures ∙ sym (marked-settled k (s .args .p) (s .args .upper) (t .marked))
     ∙ ap (λ (n : ℕ). markedOf n (s .args .p) (s .args .upper)) (found (s .args .p) k (s .pre .1 .1 .0) (t .bracket))
 
@@ -36,7 +36,7 @@ pub index-by-thresholds-spec : {M : Type 1} → statement M
 index-by-thresholds-spec =
     tie.close
     (tie.spec
-    guess-requires
+    guess-to-355-requires
     settled-by-thresholds-requires
     by-b-requires
     returns

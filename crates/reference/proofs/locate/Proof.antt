@@ -1,66 +1,81 @@
--- The row and the share of the way: in each of the three ranges `along` is y in thousandths of the spacing, past row 0.
+-- The row and the share of the way: in each of the three ranges the smallest is y in thousandths of that range's spacing, past row 0.
 -- Assumes nothing.
-use Prim.Native.Nat.{ℕ}
-use mathlib.Core.Path.{_≡_, _∙_, ap₂}
+use Prim.Native.Nat.{ℕ, _+_, _*_, _-_, _/_, _%_, _≤_}
+use mathlib.Core.Path.{_≡_, ap₂}
 use native.Mathlib.Omega.{arith}
 use borrow.Author.Tests.{lt-ltb, le-ltb}
 use borrow.Author.Needs.{needs}
+use Rattle.laws.proofs.Order.{by-order}
 use Rattle.reference.specs.declared.Place.{Place}
+use Rattle.reference.specs.Viscosity.{least100}
+use Rattle.reference.specs.Basis.{lastRow, placeOf}
 use Rattle.reference.proofs.locate.Statement.{statement}
 use Rattle.reference.proofs.locate.Tie as tie
 
-made : (p : Place) (r s : ℕ) → p .row ≡ r → p .share ≡ s → p ≡ record { row = r; share = s }
-made p r s a b = ap₂ (λ (r : ℕ) (s : ℕ). record { row = r; share = s }) a b
+abbrev made : ℕ → ℕ → Place
+made r s = record { row = r; share = s }
 
-mul-place-along : tie.Need-mul-place-along
-mul-place-along c = search needs
+-- `rest` is the smaller of the lines of the second and the third range, `along` the smaller of it and the line of the first
+at : (y rest along : ℕ)
+    → (5 * y + 80000 ≤ 2 * y + 170000 → rest ≡ 5 * y + 80000) × (2 * y + 170000 ≤ 5 * y + 80000 → rest ≡ 2 * y + 170000)
+    → (10 * y - 20000 ≤ rest → along ≡ 10 * y - 20000) × (rest ≤ 10 * y - 20000 → along ≡ rest)
+    → least100 ≤ y → y ≤ lastRow → made (along / 1000) (along % 1000) ≡ placeOf y
+at y rest along later earlier low high =
+    by-order y 20000
+    (λ a. let r = later .0 (omega arith) in
+    let t = earlier .0 (omega arith) in
+    rw (lt-ltb y 20000 a) (ap₂ made (omega arith) (omega arith)))
+    (λ a. by-order y 30000
+    (λ b. let r = later .0 (omega arith) in
+    let t = earlier .1 (omega arith) in
+    rw (le-ltb y 20000 a, lt-ltb y 30000 b) (ap₂ made (omega arith) (omega arith)))
+    (λ b. let r = later .1 (omega arith) in
+    let t = earlier .1 (omega arith) in
+    rw (le-ltb y 20000 a, le-ltb y 30000 b) (ap₂ made (omega arith) (omega arith))))
 
-sub-place-along : tie.Need-sub-place-along
-sub-place-along c = search needs
+mul-smaller : tie.Need-mul-smaller
+mul-smaller c = search needs
 
-place-along-requires : tie.Need-place-along-requires
-place-along-requires c κs = search needs
+add-smaller : tie.Need-add-smaller
+add-smaller c = search needs
+
+mul-smaller-2 : tie.Need-mul-smaller-2
+mul-smaller-2 c = search needs
+
+add-smaller-2 : tie.Need-add-smaller-2
+add-smaller-2 c = search needs
+
+smaller-requires : tie.Need-smaller-requires
+smaller-requires c κs = search needs
+
+mul-smaller-3 : tie.Need-mul-smaller-3
+mul-smaller-3 c = search needs
+
+sub-smaller : tie.Need-sub-smaller
+sub-smaller c = search needs
+
+smaller-requires-2 : tie.Need-smaller-requires-2
+smaller-requires-2 c κs = search needs
+
+cast-t8 : tie.Need-cast-t8
+cast-t8 c = search needs
 
 returns : tie.Need-returns
-returns c = rw (lt-ltb _ _ (c .before .if1 .taken)) (made _ _ _ (c .place-along .ensures .0 ∙ omega arith) (c .place-along .ensures .1 ∙ omega arith))
-
-mul-place-along-2 : tie.Need-mul-place-along-2
-mul-place-along-2 c = search needs
-
-add-place-along : tie.Need-add-place-along
-add-place-along c = search needs
-
-place-along-requires-2 : tie.Need-place-along-requires-2
-place-along-requires-2 c κs = search needs
-
-returns-2 : tie.Need-returns-2
-returns-2 c = rw (le-ltb _ _ (c .before .before .if1 .left), lt-ltb _ _ (c .before .if2 .taken)) (made _ _ _ (c .place-along2 .ensures .0 ∙ omega arith) (c .place-along2 .ensures .1 ∙ omega arith))
-
-mul-place-along-3 : tie.Need-mul-place-along-3
-mul-place-along-3 c = search needs
-
-add-place-along-2 : tie.Need-add-place-along-2
-add-place-along-2 c = search needs
-
-place-along-requires-3 : tie.Need-place-along-requires-3
-place-along-requires-3 c κs = search needs
-
-returns-3 : tie.Need-returns-3
-returns-3 c = rw (le-ltb _ _ (c .before .before .if1 .left), le-ltb _ _ (c .before .if2 .left)) (made _ _ _ (c .place-along3 .ensures .0 ∙ omega arith) (c .place-along3 .ensures .1 ∙ omega arith))
+returns c =
+    let s = c .before .before in
+    at (s .args .y) (c .before .smaller .result) (c .smaller2 .result) (c .before .smaller .ensures) (c .smaller2 .ensures) (s .pre .0) (s .pre .1)
 
 pub locate-spec : {M : Type 1} → statement M
 locate-spec =
     tie.close
     (tie.spec
-    mul-place-along
-    sub-place-along
-    place-along-requires
-    returns
-    mul-place-along-2
-    add-place-along
-    place-along-requires-2
-    returns-2
-    mul-place-along-3
-    add-place-along-2
-    place-along-requires-3
-    returns-3)
+    mul-smaller
+    add-smaller
+    mul-smaller-2
+    add-smaller-2
+    smaller-requires
+    mul-smaller-3
+    sub-smaller
+    smaller-requires-2
+    cast-t8
+    returns)
