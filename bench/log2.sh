@@ -24,7 +24,7 @@ ghost use Rattle.logarithm.specs.Log2.{Lent};
 const UNIT: u64 = 281474976710656;
 
 // A value out of range has the answer 0.
-fn log2_or_0(first: &[u64; 256], second: &[u64; 256], x: u64) -> u64
+fn log2_or_0(first: &[u32; 512], second: &[u32; 512], x: u64) -> u64
     requires { ⌜ Lent (now first) (now second) ⌝ }
 {
     if x < 1 {

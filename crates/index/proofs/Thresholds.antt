@@ -11,7 +11,7 @@ use lib.ListN.{length, getD}
 use lib.Count.{leadingZeros}
 use Rattle.laws.proofs.Computed.{and-left, and-right, every, at}
 use Rattle.logarithm.specs.Tables.{firstTable, secondTable}
-use Rattle.logarithm.specs.Log2.{zerosOf, mantissa, entryOf, timesFactor, taken, left, lineOf, restOf, fractionOf, log2Of}
+use Rattle.logarithm.specs.Log2.{zerosOf, mantissa, entryAt, entryOf, timesFactor, taken, left, lineOf, restOf, fractionOf, log2Of}
 use Rattle.index.specs.declared.Trial.the-variants as trial
 use Rattle.index.specs.Thresholds.{thresholds}
 use Rattle.index.specs.Chosen.{mostUpper, showsLeast, trialOf}
@@ -22,7 +22,7 @@ right : ℕ → ℕ → Bool
 right i x = showsLeast x (9950 + 100 * i) && (eqb i 0 || not (showsLeast (x - 1) (9950 + 100 * i)))
 
 whole-table : T (every right 0 thresholds)
-unfolding right thresholds showsLeast log2Of fractionOf restOf lineOf left taken entryOf timesFactor mantissa zerosOf leadingZeros firstTable secondTable
+unfolding right thresholds showsLeast log2Of fractionOf restOf lineOf left taken entryOf entryAt timesFactor mantissa zerosOf leadingZeros firstTable secondTable
 whole-table = tt
 
 passes : (b : Bool) → T b → b ≡ true

@@ -184,7 +184,7 @@ fn c_of(r: u64) -> u64
 }
 
 // The logarithm of c(r), for an r at which the code looks.
-fn log_c(first: &[u64; 256], second: &[u64; 256], r: u64) -> u64
+fn log_c(first: &[u32; 512], second: &[u32; 512], r: u64) -> u64
     requires lent { ⌜ logarithm.Lent (now first) (now second) ⌝ }
     requires { ⌜ (10050 ≤ r) × (r ≤ 1000050) ⌝ }
     ensures { λ x. ⌜ (x ≡ log2Of (c r)) × LogOfC x ⌝ }
@@ -209,7 +209,7 @@ fn shows_most(lc: u64, upper: u64) -> bool
 }
 
 // Is at least k − 0.5 shown? Of 100 it always is: c is below 10^7 there.
-fn shown_below(first: &[u64; 256], second: &[u64; 256], k: u64, p: u64) -> bool
+fn shown_below(first: &[u32; 512], second: &[u32; 512], k: u64, p: u64) -> bool
     requires lent { ⌜ logarithm.Lent (now first) (now second) ⌝ }
     requires { ⌜ (100 ≤ k) × (k ≤ 10000) × (p ≤ mostLower) ⌝ }
     ensures { λ b. ⌜ b ≡ showsLeast p (100 * k - 50) ⌝ }
@@ -221,7 +221,7 @@ fn shown_below(first: &[u64; 256], second: &[u64; 256], k: u64, p: u64) -> bool
 }
 
 // What trying k says.
-fn try_index(first: &[u64; 256], second: &[u64; 256], k: u64, p: u64, upper: u64) -> Trial
+fn try_index(first: &[u32; 512], second: &[u32; 512], k: u64, p: u64, upper: u64) -> Trial
     requires lent { ⌜ logarithm.Lent (now first) (now second) ⌝ }
     requires { ⌜ (100 ≤ k) × (k < 10000) × (p ≤ mostLower) × (upper ≤ mostUpper) ⌝ }
     ensures { λ r. ⌜ r ≡ trialOf k p upper ⌝ }
@@ -240,7 +240,7 @@ fn try_index(first: &[u64; 256], second: &[u64; 256], k: u64, p: u64, upper: u64
 }
 
 // The search for k by halving, where the guess was wrong.
-fn search(first: &[u64; 256], second: &[u64; 256], p: u64) -> u64
+fn search(first: &[u32; 512], second: &[u32; 512], p: u64) -> u64
     requires lent { ⌜ logarithm.Lent (now first) (now second) ⌝ }
     requires { ⌜ p ≤ mostLower ⌝ }
     ensures { λ r. ⌜ r ≡ wholeOf p ⌝ }
@@ -318,7 +318,7 @@ fn by_b(k: u64, mark: Mark, p: u64, upper: u64) -> ByB
 }
 
 // The mark of a k that was searched.
-fn mark_of(first: &[u64; 256], second: &[u64; 256], k: u64, p: u64, upper: u64) -> ByB
+fn mark_of(first: &[u32; 512], second: &[u32; 512], k: u64, p: u64, upper: u64) -> ByB
     requires lent { ⌜ logarithm.Lent (now first) (now second) ⌝ }
     requires { ⌜ (100 ≤ k) × (k < 10000) × (p ≤ mostLower) × (upper ≤ mostUpper) ⌝ }
     ensures { λ r. ⌜ r ≡ markedOf k p upper ⌝ }
@@ -330,7 +330,7 @@ fn mark_of(first: &[u64; 256], second: &[u64; 256], k: u64, p: u64, upper: u64) 
 }
 
 // The index of p and P: the guess, where it proves right; otherwise the search.
-fn index_of(first: &[u64; 256], second: &[u64; 256], p: u64, upper: u64) -> ByB
+fn index_of(first: &[u32; 512], second: &[u32; 512], p: u64, upper: u64) -> ByB
     requires lent { ⌜ logarithm.Lent (now first) (now second) ⌝ }
     requires { ⌜ (p ≤ mostLower) × (upper ≤ mostUpper) ⌝ }
     ensures { λ r. ⌜ r ≡ markedOf (wholeOf p) p upper ⌝ }
@@ -381,8 +381,8 @@ fn settled_by_thresholds(thresholds: &[u32; 257], k: u64, p: u64, upper: u64) ->
 
 // The index of p and P, by the table of thresholds where it tells.
 fn index_by_thresholds(
-    first: &[u64; 256],
-    second: &[u64; 256],
+    first: &[u32; 512],
+    second: &[u32; 512],
     thresholds: &[u32; 257],
     p: u64,
     upper: u64,
@@ -406,7 +406,7 @@ struct Fractions {
 }
 
 // p and P of an oil below H.
-fn fractions_of(first: &[u64; 256], second: &[u64; 256], oil: Oil) -> Fractions
+fn fractions_of(first: &[u32; 512], second: &[u32; 512], oil: Oil) -> Fractions
     requires lent { ⌜ logarithm.Lent (now first) (now second) ⌝ }
     requires { ⌜ OilBelowH oil ⌝ }
     ensures { λ r. ⌜ Found (oil .u) (oil .y) (r .lower) (r .upper) ⌝ }
@@ -420,7 +420,7 @@ fn fractions_of(first: &[u64; 256], second: &[u64; 256], oil: Oil) -> Fractions
 }
 
 // Procedure B for an oil below H.
-fn procedure_b(first: &[u64; 256], second: &[u64; 256], thresholds: &[u32; 257], oil: Oil) -> ByB
+fn procedure_b(first: &[u32; 512], second: &[u32; 512], thresholds: &[u32; 257], oil: Oil) -> ByB
     requires lent { ⌜ logarithm.Lent (now first) (now second) ⌝ }
     requires halves { ⌜ now thresholds ≡ thresholdList ⌝ }
     requires { ⌜ OilBelowH oil ⌝ }
@@ -446,8 +446,8 @@ fn procedure_b_alone(oil: Oil) -> ByB
 // The answer to a pair that passes the questions, with lent tables. Procedure B needs no L, so H comes first.
 fn answer_passed(
     rows: &[u32; 622],
-    first: &[u64; 256],
-    second: &[u64; 256],
+    first: &[u32; 512],
+    second: &[u32; 512],
     thresholds: &[u32; 257],
     pair: Pair,
 ) -> Answer
@@ -494,8 +494,8 @@ fn answer_alone(pair: Pair) -> Answer
 // The answer to a pair, with lent tables: for a caller with many pairs.
 pub fn answer_lent(
     rows: &[u32; 622],
-    first: &[u64; 256],
-    second: &[u64; 256],
+    first: &[u32; 512],
+    second: &[u32; 512],
     thresholds: &[u32; 257],
     u: u32,
     y: u32,

@@ -1,18 +1,17 @@
 -- One level: a mantissa m times the factor (D - j) / D of its place, rounded down. A computed test of a whole table shows that each level
 -- leaves a mantissa in the next one's range, and by which power of two it grew smaller. Assumes nothing.
-use mathlib.Core.Path.{_≡_, refl, sym, ap, _∙_}
+use mathlib.Core.Path.{_≡_, sym, ap, _∙_}
 use mathlib.Core.Bool.{Bool, _&&_}
 use mathlib.Core.List.{List}
 use Prim.Native.Nat.{ℕ, suc, _+_, _*_, _-_, _/_, _%_, _^_, _≤_, _<_}
 use native.Mathlib.Nat.{le-trans, le-of-lt, lt-of-lt-of-le, lt-of-le-of-lt, mul-add, add-mul, mul-le-mul-left, mul-le-mul-right, mul-lt-mul-of-pos-right, le-of-mul-le-mul-right, lt-of-mul-lt-mul-right, div-mul-le-self, lt-div-mul-add, div-lt-iff-lt-mul, one-le-pow}
 use native.Mathlib.Omega.{arith}
 use lib.Dec.{T, ltb, leb, leb→le, ltb→lt}
-use lib.ListN.{length, getD}
-use Rattle.laws.proofs.Computed.{and-left, and-right, every, at}
+use Rattle.laws.proofs.Computed.{and-left, and-right, upTo, below}
 use Rattle.laws.proofs.Powers.{raise}
 use Rattle.logarithm.specs.Scale.{scale, scale-is, unit}
 use Rattle.logarithm.specs.Tables.{firstTable, secondTable}
-use Rattle.logarithm.specs.Log2.{packing, firstSpacing, firstDivisor, secondSpacing, secondDivisor, entryOf, timesFactor, taken, left}
+use Rattle.logarithm.specs.Log2.{packing, firstSpacing, firstDivisor, secondSpacing, secondDivisor, entryAt, entryOf, timesFactor, taken, left}
 use Rattle.logarithm.proofs.Certificate.{least, most, atLeast, atMost, least-power, most-power}
 
 -- ---- one entry
@@ -57,14 +56,17 @@ entry-of-test D S room w i p h =
       most = most-power 36 0 (D * (unit + 1)) (c * unit) (p / packing + w) scale (omega arith) scale-is (and-right t4 t5 h3);
     }
 
--- a table of n entries that all pass
-pub record Certified (D S room w n : ℕ) (table : List ℕ) : Type 0 where
-  pub count : length table ≡ n
-  pub right : T (every (entryTest D S room w) 0 table)
+-- the test of entry i of a table, and a table of n entries that all pass
+pub testAt : ℕ → ℕ → ℕ → ℕ → List ℕ → ℕ → Bool
+testAt D S room w table i = entryTest D S room w i (entryAt table i)
 
-entry-at : {D S room w n : ℕ} {table : List ℕ} → Certified D S room w n table → (i : ℕ) → i < n → Entry D S room w i (getD table i 0)
+pub record Certified (D S room w n : ℕ) (table : List ℕ) : Type 0 where
+  pub right : T (upTo (testAt D S room w table) n)
+
+entry-at : {D S room w n : ℕ} {table : List ℕ} → Certified D S room w n table → (i : ℕ) → i < n → Entry D S room w i (entryAt table i)
+unfolding testAt
 entry-at {D} {S} {room} {w} {n} {table} c i h =
-    entry-of-test D S room w i (getD table i 0) (at (entryTest D S room w) table (c .right) i (rw (c .count) h))
+    entry-of-test D S room w i (entryAt table i) (below (testAt D S room w table) n (c .right) i h)
 
 -- ---- one step
 
@@ -163,10 +165,10 @@ pub level :
 unfolding left taken entryOf
 level {D} {S} {room} {w} {n} {table} c m p lo hi =
     let r = place S m lo p in
-    step D S room w ((m - unit) / S) m (getD table ((m - unit) / S) 0) (entry-at c ((m - unit) / S) (place-in S n m p lo hi)) (r .0) (r .1)
+    step D S room w ((m - unit) / S) m (entryAt table ((m - unit) / S)) (entry-at c ((m - unit) / S) (place-in S n m p lo hi)) (r .0) (r .1)
 
 pub small-at :
-    {D S room w n : ℕ} {table : List ℕ} → Certified D S room w n table → (i : ℕ) → i < n → getD table i 0 % packing < D
+    {D S room w n : ℕ} {table : List ℕ} → Certified D S room w n table → (i : ℕ) → i < n → entryAt table i % packing < D
 small-at c i h = entry-at c i h .small
 
 -- ---- the two tables
@@ -183,9 +185,9 @@ abbrev pub lineRoom : ℕ
 lineRoom = 4328391680
 
 pub first-certified : Certified firstDivisor firstSpacing (256 * secondSpacing) firstWidth 256 firstTable
-unfolding firstTable entryTest atLeast atMost least most
-first-certified = record { count = refl; right = tt }
+unfolding firstTable testAt entryAt entryTest atLeast atMost least most
+first-certified = record { right = tt }
 
 pub second-certified : Certified secondDivisor secondSpacing lineRoom secondWidth 256 secondTable
-unfolding secondTable entryTest atLeast atMost least most
-second-certified = record { count = refl; right = tt }
+unfolding secondTable testAt entryAt entryTest atLeast atMost least most
+second-certified = record { right = tt }

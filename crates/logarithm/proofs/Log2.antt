@@ -7,12 +7,11 @@ use native.Mathlib.Nat.{mul-assoc, mul-le-mul-left, mul-le-mul-right, le-of-mul-
 use native.Mathlib.Omega.{arith}
 use lib.Pow.{pow-add, pow-pos, pow-mono}
 use lib.Count.{leadingZeros, leading-length}
-use lib.ListN.{getD}
 use Rattle.laws.proofs.Order.{by-order}
 use Rattle.laws.proofs.Powers.{mul-pow, pow-mul}
 use Rattle.logarithm.specs.Scale.{scale, scale-is, scaleNumber, width, unit, bound}
 use Rattle.logarithm.specs.Tables.{firstTable, secondTable}
-use Rattle.logarithm.specs.Log2.{packing, firstSpacing, firstDivisor, secondSpacing, secondDivisor, slope, slopeDivisor, zerosOf, mantissa, entryOf, timesFactor, taken, left, lineOf, restOf, fractionOf, log2Of, Enclosed, InRange, Reduces}
+use Rattle.logarithm.specs.Log2.{packing, firstSpacing, firstDivisor, secondSpacing, secondDivisor, slope, slopeDivisor, zerosOf, mantissa, entryAt, entryOf, timesFactor, taken, left, lineOf, restOf, fractionOf, log2Of, Enclosed, InRange, Reduces}
 use Rattle.logarithm.proofs.Level.{Certified, Step, level, firstWidth, secondWidth, lineRoom, first-certified, second-certified}
 use Rattle.logarithm.proofs.Line.{line, lineWidth}
 
@@ -155,7 +154,7 @@ log2-enclosed x r =
 -- ---- for the proofs of the code
 
 pub reduces :
-    (table : List ℕ) (S D m p t : ℕ) → p ≡ getD table ((m - unit) / S) 0 → t ≡ p / packing → t < 2 * unit
+    (table : List ℕ) (S D m p t : ℕ) → p ≡ entryAt table ((m - unit) / S) → t ≡ p / packing → t < 2 * unit
     → Reduces table S D m (timesFactor D m p) t
 unfolding left taken entryOf
 reduces table S D m p t e q h = record { mantissa = ap (timesFactor D m) e; log = q ∙ ap (λ (x : ℕ). x / packing) e; small = h }
@@ -186,5 +185,5 @@ log2-computed x f e = ap (λ (y : ℕ). y + (64 - leadingZeros 64 (x / 2)) * sca
 -- ---- an example: the logarithm of a literal is computed
 
 log2-of-thousand : log2Of 1000 ≡ 684843481305
-unfolding log2Of fractionOf restOf lineOf left taken entryOf timesFactor mantissa zerosOf leadingZeros firstTable secondTable
+unfolding log2Of fractionOf restOf lineOf left taken entryOf entryAt timesFactor mantissa zerosOf leadingZeros firstTable secondTable
 log2-of-thousand = refl

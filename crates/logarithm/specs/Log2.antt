@@ -46,9 +46,16 @@ zerosOf x = leadingZeros 64 (x / 2)
 unfoldable pub mantissa : ℕ → ℕ
 mantissa x = x * 2 ^ (zerosOf x - 16)
 
+-- entry i of a table, which stands as two numbers of 32 bits, the lower half first
+abbrev pub halfSpan : ℕ
+halfSpan = 4294967296
+
+unfoldable pub entryAt : List ℕ → ℕ → ℕ
+entryAt table i = getD table (2 * i) 0 + halfSpan * getD table (2 * i + 1) 0
+
 -- the entry of the mantissa m in a table whose places are s apart
 unfoldable pub entryOf : List ℕ → ℕ → ℕ → ℕ
-entryOf table s m = getD table ((m - unit) / s) 0
+entryOf table s m = entryAt table ((m - unit) / s)
 
 -- m times the factor (d - j) / d of the entry p, rounded down
 unfoldable pub timesFactor : ℕ → ℕ → ℕ → ℕ

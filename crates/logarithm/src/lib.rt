@@ -24,7 +24,7 @@ ghost use mathlib.Core.Path.{_≡_};
 ghost use Prim.Native.Nat.{_+_, _*_, _-_, _/_, _≤_, _<_};
 ghost use Rattle.logarithm.specs.Scale.{unit};
 ghost use Rattle.logarithm.specs.Tables.{firstTable, secondTable};
-ghost use Rattle.logarithm.specs.Log2.{Enclosed, InRange, Lent, Reduces, fractionOf, packing};
+ghost use Rattle.logarithm.specs.Log2.{Enclosed, InRange, Lent, Reduces, entryAt, fractionOf, halfSpan, packing};
 use tables::FIRST;
 use tables::SECOND;
 
@@ -34,8 +34,11 @@ const UNIT: u64 = 281474976710656;
 // E = 2^36, the units of a logarithm in 1.
 const SCALE: u64 = 68719476736;
 
-// An entry is t * PACKING + j.
+// An entry is t * PACKING + j. It stands as two numbers of 32 bits, the lower half first: the compiler copies those four at a time, and
+// numbers of 64 bits one at a time.
 const PACKING: u64 = 32768;
+
+const HALF_SPAN: u64 = 4294967296;
 
 // The first level: places 2^40 apart, factors over 2^16.
 const FIRST_SPACING: u64 = 1099511627776;
@@ -63,7 +66,22 @@ struct Reduced {
     log: u64,
 }
 
-// The logarithm in an entry. A parameter is known to fit its type, which a read through a lent array is not.
+// A number of 32 bits as one of 64. A parameter is known to fit its type, which a read through a lent array is not.
+fn wide(x: u32) -> u64
+    ensures { λ r. ⌜ (r ≡ x) × (r < halfSpan) ⌝ }
+{
+    x as u64
+}
+
+// Entry i of a table, from its two halves.
+fn entry_at(table: &[u32; 512], i: usize) -> u64
+    requires { ⌜ i < 256 ⌝ }
+    ensures { λ r. ⌜ r ≡ entryAt (now (table .entry)) i ⌝ }
+{
+    wide(table[2 * i]) + HALF_SPAN * wide(table[2 * i + 1])
+}
+
+// The logarithm in an entry.
 fn log_in(entry: u64) -> u64
     ensures { λ r. ⌜ (r ≡ entry / packing) × (r < 2 * unit) ⌝ }
 {
@@ -71,11 +89,11 @@ fn log_in(entry: u64) -> u64
 }
 
 // One level: m times the factor over d that the table has for its place, rounded down. Places are s apart.
-fn reduce(table: &[u64; 256], m: u64, s: u64, d: u64) -> Reduced
+fn reduce(table: &[u32; 512], m: u64, s: u64, d: u64) -> Reduced
     requires { ⌜ (unit ≤ m) × (m < 2 * unit) × (0 < s) × (packing ≤ d) × (d ≤ unit) × ((m - unit) / s < 256) ⌝ }
     ensures { λ r. ⌜ Reduces (now (table .entry)) s d m (r .mantissa) (r .log) ⌝ }
 {
-    let p = table[((m - UNIT) / s) as usize];
+    let p = entry_at(table, ((m - UNIT) / s) as usize);
     let log = log_in(p);
     Reduced {
         mantissa: m - (m * (p % PACKING) + (d - 1)) / d,
@@ -84,7 +102,7 @@ fn reduce(table: &[u64; 256], m: u64, s: u64, d: u64) -> Reduced
 }
 
 // The logarithm of m / UNIT.
-fn fraction(first: &[u64; 256], second: &[u64; 256], m: u64) -> u64
+fn fraction(first: &[u32; 512], second: &[u32; 512], m: u64) -> u64
     requires lent { ⌜ Lent (now first) (now second) ⌝ }
     requires { ⌜ (unit ≤ m) × (m < 2 * unit) ⌝ }
     ensures { λ r. ⌜ (r ≡ fractionOf m) × (r < 16 * unit) ⌝ }
@@ -97,20 +115,20 @@ fn fraction(first: &[u64; 256], second: &[u64; 256], m: u64) -> u64
 // The tables, to be held as locals and lent to log2_scaled: what these two promise is what its `Lent` asks for, and `search needs` passes
 // it on. A constant array that is read at a place known only when the program runs is copied whole on each call that reads it, so a
 // caller copies once for many logarithms.
-pub fn first_table() -> [u64; 256]
+pub fn first_table() -> [u32; 512]
     ensures { λ r. ⌜ r ≡ firstTable ⌝ }
 {
     FIRST
 }
 
-pub fn second_table() -> [u64; 256]
+pub fn second_table() -> [u32; 512]
     ensures { λ r. ⌜ r ≡ secondTable ⌝ }
 {
     SECOND
 }
 
 // The scaled logarithm of x. It asks for what it needs because it is an inner layer, and no operation that a customer reaches.
-pub fn log2_scaled(first: &[u64; 256], second: &[u64; 256], x: u64) -> u64
+pub fn log2_scaled(first: &[u32; 512], second: &[u32; 512], x: u64) -> u64
     requires lent { ⌜ Lent (now first) (now second) ⌝ }
     requires range { ⌜ InRange x ⌝ }
     ensures { λ r. ⌜ Enclosed x r ⌝ }

@@ -238,8 +238,8 @@ pub fn refusal_of(sheet: &[u8]) -> u8
 // Answers pair i of the pairs that begin at `pairs`, and writes its record as result i of those that begin at `results`.
 fn work_pair(
     rows: &[u32; 622],
-    first: &[u64; 256],
-    second: &[u64; 256],
+    first: &[u32; 512],
+    second: &[u32; 512],
     thresholds: &[u32; 257],
     sheet: &mut [u8],
     pairs: usize,
@@ -260,8 +260,8 @@ fn work_pair(
 // Answers the n pairs that begin at `pairs`, and writes their records from `results` on.
 fn work_pairs(
     rows: &[u32; 622],
-    first: &[u64; 256],
-    second: &[u64; 256],
+    first: &[u32; 512],
+    second: &[u32; 512],
     thresholds: &[u32; 257],
     sheet: &mut [u8],
     n: usize,

@@ -1,9 +1,7 @@
 -- `logarithm::reduce` meets its contract: what is taken off the mantissa is at most the mantissa, and no product wraps. Assumes nothing.
 use Prim.Native.Nat.{ℕ, _*_, _%_, _-_, _+_, _/_, _≤_, _<_}
-use mathlib.Core.Path.{refl}
 use native.Mathlib.Nat.{mul-le-mul-left, div-lt-iff-lt-mul}
 use native.Mathlib.Omega.{arith}
-use lib.ListN.{getD}
 use borrow.Author.Needs.{needs}
 use Rattle.logarithm.specs.Scale.{unit}
 use Rattle.logarithm.specs.Log2.{packing, timesFactor}
@@ -23,58 +21,52 @@ taken-off m p d e h l =
     let r : (m * (p % packing) + e) / d < m + 1 = div-lt-iff-lt-mul q .1 g in
     omega arith
 
-sub-p : tie.Need-sub-p
-sub-p c = search needs
+sub-entry-at : tie.Need-sub-entry-at
+sub-entry-at c = search needs
 
-div-p : tie.Need-div-p
-div-p c = search needs
+div-entry-at : tie.Need-div-entry-at
+div-entry-at c = search needs
 
-mul-p : tie.Need-mul-p
-mul-p c = search needs
-
-element-copy-out-p : tie.Need-element-copy-out-p
-element-copy-out-p c = search needs
+entry-at-requires : tie.Need-entry-at-requires
+entry-at-requires c κs = search needs
 
 log-in-requires : tie.Need-log-in-requires
 log-in-requires c κs = search needs
 
-mul-t13 : tie.Need-mul-t13
-mul-t13 c =
-    let a = c .before .before .args in
-    omega (arith, product-small (a .m) (getD (a .table .now) ((a .m - unit) / a .s) 0) (c .before .before .pre .1))
+mul-t8 : tie.Need-mul-t8
+mul-t8 c =
+    omega (arith, product-small (c .before .before .args .m) (c .before .entry-at .result) (c .before .before .pre .1))
 
-sub-t8 : tie.Need-sub-t8
-sub-t8 c = search needs
+sub-t10 : tie.Need-sub-t10
+sub-t10 c = search needs
 
-add-t14 : tie.Need-add-t14
-add-t14 c =
-    let a = c .before .before .args in
-    omega (arith, product-small (a .m) (getD (a .table .now) ((a .m - unit) / a .s) 0) (c .before .before .pre .1))
+add-t11 : tie.Need-add-t11
+add-t11 c =
+    omega (arith, product-small (c .before .before .args .m) (c .before .entry-at .result) (c .before .before .pre .1))
 
-div-t15 : tie.Need-div-t15
-div-t15 c = search needs
+div-t12 : tie.Need-div-t12
+div-t12 c = search needs
 
-sub-t16 : tie.Need-sub-t16
-sub-t16 c = taken-off (c .before .before .args .m) _ (c .before .before .args .d) _ (c .before .before .pre .3) (omega (arith, c .before .before .pre .3))
+sub-t13 : tie.Need-sub-t13
+sub-t13 c = taken-off (c .before .before .args .m) _ (c .before .before .args .d) _ (c .before .before .pre .3) (omega (arith, c .before .before .pre .3))
 
 returns : tie.Need-returns
 unfolding timesFactor
 returns c =
     let a = c .before .before .args in
-    reduces (a .table .now) (a .s) (a .d) (a .m) _ _ refl (c .log-in .ensures .0) (c .log-in .ensures .1)
+    reduces (a .table .now) (a .s) (a .d) (a .m) _ _ (c .before .entry-at .ensures) (c .log-in .ensures .0) (c .log-in .ensures .1)
 
 pub reduce-spec : {M : Type 1} → statement M
 reduce-spec =
     tie.close
     (tie.spec
-    sub-p
-    div-p
-    mul-p
-    element-copy-out-p
+    sub-entry-at
+    div-entry-at
+    entry-at-requires
     log-in-requires
-    mul-t13
-    sub-t8
-    add-t14
-    div-t15
-    sub-t16
+    mul-t8
+    sub-t10
+    add-t11
+    div-t12
+    sub-t13
     returns)
