@@ -14,7 +14,8 @@ use Rattle.laws.proofs.Rising.{never-falls}
 use Rattle.reference.specs.declared.Place.{Place}
 use Rattle.reference.specs.Viscosity.{least100}
 use Rattle.reference.specs.Basis.{rowL, rowH, viscosityOf, lineOf, atPlace, placeOf, L-at, H-at}
-use Rattle.reference.proofs.Places.{Stands, stands}
+use Rattle.reference.specs.Lines.{Stands}
+use Rattle.reference.proofs.Places.{stands}
 use Rattle.reference.proofs.Exact.{at-line}
 use Rattle.reference.proofs.Rise.{table-rises, rows-apart}
 

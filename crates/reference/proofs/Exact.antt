@@ -6,10 +6,12 @@ use mathlib.Core.Path.{_≡_, _∙_, ap}
 use mathlib.Core.Logic.{⊎-elim}
 use native.Mathlib.Omega.{arith}
 use native.Mathlib.Nat.{mul-assoc, mul-comm, mul-left-comm, add-mul, mul-sub, eq-zero-or-pos}
-use borrow.Author.Tests.{eq-eqb, ne-eqb}
+use borrow.Author.Tests.{eq-eqb, ne-eqb, le-leb}
 use Rattle.reference.specs.declared.Place.{Place}
-use Rattle.reference.specs.Basis.{viscosityOf, lineOf, atPlace}
-use Rattle.reference.proofs.Places.{Stands}
+use Rattle.reference.specs.Viscosity.{inUnits}
+use Rattle.reference.specs.Basis.{rowL, rowH, viscosityOf, lastRow, placeOf, lineOf, atPlace, L-at, H-at}
+use Rattle.reference.specs.Lines.{Stands, weighed, NothingRounded}
+use Rattle.reference.proofs.Places.{stands}
 
 -- on a row and between rows, a place's value is the line's
 pub at-line : (entries : ℕ → ℕ) (p : Place) → atPlace entries p ≡ lineOf (entries (p .row)) (entries (p .row + 1)) (p .share)
@@ -26,13 +28,21 @@ weights a b share rest spacing over left e f =
     let h : b * (share * spacing) ≡ b * (1000 * over) = ap (λ (n : ℕ). b * n) e in
     simp (add-mul, mul-assoc, mul-comm, mul-left-comm) (omega (arith, simp mul-left-comm at g, simp mul-left-comm at h))
 
-pub nothing-rounded : (entries : ℕ → ℕ) (y : ℕ) (p : Place) (s : Stands y p) →
-    atPlace entries p * s .spacing
-    ≡ (entries (p .row) * (viscosityOf (p .row) + s .spacing - y) + entries (p .row + 1) * (y - viscosityOf (p .row))) * 10000000
-nothing-rounded entries y p s =
+on-line : (entries : ℕ → ℕ) (y : ℕ) (p : Place) (s : Stands y p) → atPlace entries p * s .spacing ≡ inUnits (weighed entries y (p .row) (s .spacing))
+on-line entries y p s =
     let rest : (1000 - p .share) * s .spacing ≡ 1000 * (viscosityOf (p .row) + s .spacing - y) =
     mul-comm (1000 - p .share) (s .spacing) ∙ mul-sub (s .spacing) 1000 (p .share)
     ∙ omega (arith, mul-comm (s .spacing) (p .share), s .exact, s .below, s .above) in
     ap (λ (n : ℕ). n * s .spacing) (at-line entries p)
     ∙ weights (entries (p .row)) (entries (p .row + 1)) (p .share) (1000 - p .share) (s .spacing) (y - viscosityOf (p .row))
     (viscosityOf (p .row) + s .spacing - y) (s .exact) rest
+
+pub nothing-rounded : NothingRounded
+unfolding L-at H-at
+nothing-rounded =
+    record {
+      lines = λ y low high.
+          let s = stands y low high in
+          let e = le-leb y lastRow high in
+          record { place = s; l = rw e (on-line rowL y (placeOf y) s); h = rw e (on-line rowH y (placeOf y) s) };
+    }

@@ -1,24 +1,13 @@
 -- The place of y in Table 1 is at the row at or below y, and its share of the way is exact, for each y from 2,000 to 70,000.
 -- Assumes nothing.
-use Prim.Native.Nat.{ℕ, _+_, _*_, _-_, _/_, _<_, _≤_}
+use Prim.Native.Nat.{ℕ, _+_, _*_, _-_, _/_, _≤_}
 use mathlib.Core.Path.{_≡_}
 use native.Mathlib.Omega.{arith}
 use borrow.Author.Tests.{lt-ltb, le-ltb}
 use Rattle.laws.proofs.Order.{by-order}
-use Rattle.reference.specs.declared.Place.{Place}
-use Rattle.reference.specs.Basis.{viscosityOf, placeOf}
-
--- p is the place of y: the row at or below y, the next row `spacing` above it, and y stands `share` thousandths of the spacing above it
-pub record Stands (y : ℕ) (p : Place) : Type 0 where
-  pub spacing : ℕ
-  pub row : p .row < 311
-  pub next : (p .share ≡ 0 → ⊥) → p .row + 1 < 311
-  pub inside : p .share < 1000
-  pub some : 0 < spacing
-  pub below : viscosityOf (p .row) ≤ y
-  pub above : y < viscosityOf (p .row) + spacing
-  pub step : viscosityOf (p .row + 1) ≡ viscosityOf (p .row) + spacing
-  pub exact : p .share * spacing ≡ 1000 * (y - viscosityOf (p .row))
+use Rattle.reference.specs.Viscosity.{least100}
+use Rattle.reference.specs.Basis.{viscosityOf, lastRow, placeOf}
+use Rattle.reference.specs.Lines.{Stands}
 
 -- ---- the viscosity of a row, by the range that the row is in
 
@@ -35,7 +24,7 @@ middle i l h =
 coarse : (i : ℕ) → 230 ≤ i → viscosityOf i ≡ 30000 + 500 * (i - 230)
 coarse i l = simp (le-ltb i 180 (omega arith), le-ltb i 230 l)
 
-pub stands : (y : ℕ) → 2000 ≤ y → y ≤ 70000 → Stands y (placeOf y)
+pub stands : (y : ℕ) → least100 ≤ y → y ≤ lastRow → Stands y (placeOf y)
 stands y low high =
     by-order y 20000
     (λ a. rw (lt-ltb y 20000 a)

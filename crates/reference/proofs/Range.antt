@@ -18,7 +18,8 @@ use Rattle.reference.specs.declared.Place.{Place}
 use Rattle.reference.specs.Table1.{table1}
 use Rattle.reference.specs.Viscosity.{least100, greatest100}
 use Rattle.reference.specs.Basis.{entry, rowH, viscosityOf, atPlace, placeOf, quadraticH, H-at}
-use Rattle.reference.proofs.Places.{Stands, stands}
+use Rattle.reference.specs.Lines.{Stands}
+use Rattle.reference.proofs.Places.{stands}
 use Rattle.reference.proofs.Exact.{at-line}
 use Rattle.reference.proofs.Bounds.{line-apart, line-level}
 use Rattle.reference.proofs.Rise.{table-rises}

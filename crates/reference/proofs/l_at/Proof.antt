@@ -4,7 +4,8 @@ use mathlib.Core.Path.{_∙_}
 use native.Mathlib.Omega.{arith}
 use borrow.Author.Tests.{le-leb, lt-leb}
 use borrow.Author.Needs.{needs}
-use Rattle.reference.proofs.Places.{Stands, stands}
+use Rattle.reference.specs.Lines.{Stands}
+use Rattle.reference.proofs.Places.{stands}
 use Rattle.reference.specs.Basis.{L-at}
 use Rattle.reference.proofs.l_at.Statement.{statement}
 use Rattle.reference.proofs.l_at.Tie as tie
