@@ -5,9 +5,9 @@ use mathlib.Core.List.{List}
 use Prim.Native.Nat.{ℕ}
 use Rattle.reference.specs.Table1.{table1}
 use Rattle.logarithm.specs.Log2 as logarithm
-use Rattle.index.specs.Thresholds.{thresholds}
+use Rattle.index.specs.Thresholds.{thresholdTable}
 
-pub record Lent (rows first second halves : List ℕ) : Type 0 where
+pub record Lent (rows first second thresholds : List ℕ) : Type 0 where
   pub rows-are : rows ≡ table1
   pub logarithms : logarithm.Lent first second
-  pub halves-are : halves ≡ thresholds
+  pub thresholds-are : thresholds ≡ thresholdTable

@@ -2,8 +2,8 @@
 use mathlib.Core.List.{List, [], _∷_}
 use Prim.Native.Nat.{ℕ}
 
-unfoldable pub thresholds : List ℕ
-thresholds =
+unfoldable pub thresholdTable : List ℕ
+thresholdTable =
     0 ∷ 26002 ∷ 77729 ∷ 129092 ∷ 180095 ∷ 230743 ∷ 281042 ∷ 330996 ∷
     380610 ∷ 429888 ∷ 478835 ∷ 527455 ∷ 575754 ∷ 623734 ∷ 671400 ∷ 718757 ∷
     765807 ∷ 812556 ∷ 859007 ∷ 905163 ∷ 951029 ∷ 996609 ∷ 1041904 ∷ 1086920 ∷

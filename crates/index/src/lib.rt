@@ -22,7 +22,7 @@ ghost use Rattle.index.specs.ProcedureA.{floorDiv, roundedA};
 ghost use Rattle.index.specs.ProcedureB.{c};
 ghost use Rattle.index.specs.Answer.{RightAnswer};
 ghost use Rattle.index.specs.Lent.{Lent};
-ghost use Rattle.index.specs.Thresholds.{thresholds as thresholdList};
+ghost use Rattle.index.specs.Thresholds.{thresholdTable};
 ghost use Rattle.index.specs.Chosen.{parts, mostLower, mostUpper, log10, log1000, log10000000, InBounds, LogOfC, lowerFrom, upperFrom, showsLeast, showsMost, wholeOf, made, markedOf, trialOf, byB, Found, OilBelowH, answerOf};
 use reference::Asked40;
 use reference::Asked100;
@@ -365,7 +365,7 @@ fn guess_to_355(p: u64) -> u64
 
 // Do two entries of the table of thresholds tell that k is settled? They do for most oils up to an index of 355; a no says nothing.
 fn settled_by_thresholds(thresholds: &[u32; 257], k: u64, p: u64, upper: u64) -> bool
-    requires lent { ⌜ now thresholds ≡ thresholdList ⌝ }
+    requires lent { ⌜ now thresholds ≡ thresholdTable ⌝ }
     requires { ⌜ (100 ≤ k) × (p < upper) × (upper ≤ mostUpper) ⌝ }
     ensures { λ b. ⌜ (b ≡ true → trialOf k p upper ≡ Trial.Settled) ⌝ }
 {
@@ -388,7 +388,7 @@ fn index_by_thresholds(
     upper: u64,
 ) -> ByB
     requires lent { ⌜ logarithm.Lent (now first) (now second) ⌝ }
-    requires halves { ⌜ now thresholds ≡ thresholdList ⌝ }
+    requires listed { ⌜ now thresholds ≡ thresholdTable ⌝ }
     requires { ⌜ (p ≤ mostLower) × (p < upper) × (upper ≤ mostUpper) ⌝ }
     ensures { λ r. ⌜ r ≡ markedOf (wholeOf p) p upper ⌝ }
 {
@@ -422,7 +422,7 @@ fn fractions_of(first: &[u32; 512], second: &[u32; 512], oil: Oil) -> Fractions
 // Procedure B for an oil below H.
 fn procedure_b(first: &[u32; 512], second: &[u32; 512], thresholds: &[u32; 257], oil: Oil) -> ByB
     requires lent { ⌜ logarithm.Lent (now first) (now second) ⌝ }
-    requires halves { ⌜ now thresholds ≡ thresholdList ⌝ }
+    requires listed { ⌜ now thresholds ≡ thresholdTable ⌝ }
     requires { ⌜ OilBelowH oil ⌝ }
     ensures { λ r. ⌜ r ≡ byB (oil .u) (oil .y) ⌝ }
 {

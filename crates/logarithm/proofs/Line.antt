@@ -9,7 +9,7 @@ use lib.Pow.{pow-add, pow-pos, pow-mono}
 use lib.Dec.{T}
 use Rattle.laws.proofs.Powers.{mul-pow, pow-mul, pow-swap, root, raise, steps-at-most}
 use Rattle.logarithm.specs.Scale.{scale, scale-is, unit}
-use Rattle.logarithm.specs.Log2.{slope, slopeDivisor, lineOf}
+use Rattle.logarithm.specs.Log2.{slope, slopeDivisor, lineAbove}
 use Rattle.logarithm.proofs.Certificate.{least, most, atLeast, atMost, least-power, most-power}
 use Rattle.logarithm.proofs.Level.{cancel-below, lineRoom}
 
@@ -100,8 +100,8 @@ line-over d l =
           (lineRoom - d) topLog (omega arith) rise-to-top (omega arith);
     }
 
-pub line : (m : ℕ) → unit ≤ m → m < unit + lineRoom → OnLine m (lineOf m)
-unfolding lineOf
+pub line : (m : ℕ) → unit ≤ m → m < unit + lineRoom → OnLine m (lineAbove m)
+unfolding lineAbove
 line m l h =
     let e : unit + (m - unit) ≡ m = omega arith in
     rw e at (line-over (m - unit) (omega arith))

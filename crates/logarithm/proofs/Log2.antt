@@ -11,7 +11,7 @@ use Rattle.laws.proofs.Order.{by-order}
 use Rattle.laws.proofs.Powers.{mul-pow, pow-mul}
 use Rattle.logarithm.specs.Scale.{scale, scale-is, scaleNumber, width, unit, bound}
 use Rattle.logarithm.specs.Tables.{firstTable, secondTable}
-use Rattle.logarithm.specs.Log2.{packing, firstSpacing, firstDivisor, secondSpacing, secondDivisor, slope, slopeDivisor, zerosOf, mantissa, entryAt, entryOf, timesFactor, taken, left, lineOf, restOf, fractionOf, log2Of, Enclosed, InRange, Reduces}
+use Rattle.logarithm.specs.Log2.{packing, firstSpacing, firstDivisor, secondSpacing, secondDivisor, slope, slopeDivisor, zerosOf, mantissa, entryAt, entryOf, timesFactor, taken, left, lineAbove, restOf, fractionOf, log2Of, Enclosed, InRange, Reduces}
 use Rattle.logarithm.proofs.Level.{Certified, Step, level, firstWidth, secondWidth, lineRoom, first-certified, second-certified}
 use Rattle.logarithm.proofs.Line.{line, lineWidth}
 
@@ -54,7 +54,7 @@ unfolding restOf
 rest-law m l h =
     let s = second-step m l h in
     let r = line (left secondTable secondSpacing secondDivisor m) (s .least) (s .most) in
-    prepend s (lineOf (left secondTable secondSpacing secondDivisor m)) lineWidth (record { below = r .below; above = r .above })
+    prepend s (lineAbove (left secondTable secondSpacing secondDivisor m)) lineWidth (record { below = r .below; above = r .above })
 
 -- what each part may be too low by adds up to the width
 widths : firstWidth + (secondWidth + lineWidth) ≡ width
@@ -171,7 +171,7 @@ reduced-range {m = m} c r p lo hi =
 pub fraction-computed :
     (m a b k l : ℕ) → Reduces firstTable firstSpacing firstDivisor m a k → Reduces secondTable secondSpacing secondDivisor a b l
     → k + (l + (b - unit) * slope / slopeDivisor) ≡ fractionOf m
-unfolding fractionOf restOf lineOf
+unfolding fractionOf restOf lineAbove
 fraction-computed m a b k l r s = rw (r .log, s .log, s .mantissa, r .mantissa)
 
 pub shift-fits : (x : ℕ) → InRange x → (x * 2 ^ (leadingZeros 64 (x / 2) - 16)) % 2 ^ 64 ≡ mantissa x
@@ -185,5 +185,5 @@ log2-computed x f e = ap (λ (y : ℕ). y + (64 - leadingZeros 64 (x / 2)) * sca
 -- ---- an example: the logarithm of a literal is computed
 
 log2-of-thousand : log2Of 1000 ≡ 684843481305
-unfolding log2Of fractionOf restOf lineOf left taken entryOf entryAt timesFactor mantissa zerosOf leadingZeros firstTable secondTable
+unfolding log2Of fractionOf restOf lineAbove left taken entryOf entryAt timesFactor mantissa zerosOf leadingZeros firstTable secondTable
 log2-of-thousand = refl

@@ -12,7 +12,7 @@ use Rattle.laws.proofs.Computed.{upTo, below}
 use Rattle.laws.proofs.Order.{by-order}
 use Rattle.logarithm.specs.Scale.{scaleNumber, unit}
 use Rattle.logarithm.specs.Tables.{firstTable, secondTable}
-use Rattle.logarithm.specs.Log2.{packing, firstSpacing, secondSpacing, zerosOf, mantissa, entryAt, entryOf, timesFactor, taken, left, lineOf, restOf, fractionOf, log2Of, InRange}
+use Rattle.logarithm.specs.Log2.{packing, firstSpacing, secondSpacing, zerosOf, mantissa, entryAt, entryOf, timesFactor, taken, left, lineAbove, restOf, fractionOf, log2Of, InRange}
 use Rattle.logarithm.proofs.Level.{Certified, small-at, factor-rounds-down, place, place-in, first-certified, second-certified}
 use Rattle.logarithm.proofs.Log2.{whole-part, normal, first-step}
 
@@ -97,8 +97,8 @@ module _ {D S room w n : ℕ} {table : List ℕ} (c : Certified D S room w n tab
       subst (λ (i : ℕ). timesFactor D m (entryAt table i) ≤ timesFactor D m' (entryAt table ((m' - unit) / S))) (sym e)
       (factor-rises D m m' (entryAt table ((m' - unit) / S)) (small-at c ((m' - unit) / S) (place-in S n m' some (omega arith) h)) o)
 
-line-rises : (m m' : ℕ) → m ≤ m' → lineOf m ≤ lineOf m'
-unfolding lineOf
+line-rises : (m m' : ℕ) → m ≤ m' → lineAbove m ≤ lineAbove m'
+unfolding lineAbove
 line-rises m m' h = omega arith
 
 -- ---- the second level with the line
@@ -107,7 +107,7 @@ restTest : ℕ → Bool
 restTest i = leb (restOf (lastOf secondSpacing i)) (restOf (nextOf secondSpacing i))
 
 rest-tested : T (upTo restTest 255)
-unfolding restTest restOf lineOf left taken entryOf entryAt timesFactor secondTable
+unfolding restTest restOf lineAbove left taken entryOf entryAt timesFactor secondTable
 rest-tested = tt
 
 rest-across : (i : ℕ) → i + 1 < 256 → restOf (lastOf secondSpacing i) ≤ restOf (nextOf secondSpacing i)
@@ -132,7 +132,7 @@ fractionTest : ℕ → Bool
 fractionTest i = leb (fractionOf (lastOf firstSpacing i)) (fractionOf (nextOf firstSpacing i))
 
 fraction-tested : T (upTo fractionTest 255)
-unfolding fractionTest fractionOf restOf lineOf left taken entryOf entryAt timesFactor firstTable secondTable
+unfolding fractionTest fractionOf restOf lineAbove left taken entryOf entryAt timesFactor firstTable secondTable
 fraction-tested = tt
 
 fraction-across : (i : ℕ) → i + 1 < 256 → fractionOf (lastOf firstSpacing i) ≤ fractionOf (nextOf firstSpacing i)
@@ -155,7 +155,7 @@ fraction-rises m m' l o h = rises-in-places fractionOf firstSpacing 256 (omega a
 
 -- a mantissa's logarithm is at most 1
 end-tested : T (leb (fractionOf (2 * unit - 1)) scaleNumber)
-unfolding fractionOf restOf lineOf left taken entryOf entryAt timesFactor firstTable secondTable
+unfolding fractionOf restOf lineAbove left taken entryOf entryAt timesFactor firstTable secondTable
 end-tested = tt
 
 fraction-at-end : fractionOf (2 * unit - 1) ≤ scaleNumber

@@ -69,12 +69,12 @@ unfoldable pub left : List ℕ → ℕ → ℕ → ℕ → ℕ
 left table s d m = timesFactor d m (entryOf table s m)
 
 -- the line, for what is left over the unit
-unfoldable pub lineOf : ℕ → ℕ
-lineOf m = (m - unit) * slope / slopeDivisor
+unfoldable pub lineAbove : ℕ → ℕ
+lineAbove m = (m - unit) * slope / slopeDivisor
 
 -- the second level and the line, for a mantissa that the first level left
 unfoldable pub restOf : ℕ → ℕ
-restOf m = taken secondTable secondSpacing m + lineOf (left secondTable secondSpacing secondDivisor m)
+restOf m = taken secondTable secondSpacing m + lineAbove (left secondTable secondSpacing secondDivisor m)
 
 -- the logarithm of the mantissa m over its unit
 unfoldable pub fractionOf : ℕ → ℕ

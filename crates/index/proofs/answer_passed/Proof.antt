@@ -17,7 +17,7 @@ in-units-requires c κs = search needs
 procedure-b-requires : tie.Need-procedure-b-requires
 procedure-b-requires c κs =
     let s = c .before .before .before .before in
-    (s .pre .0 .logarithms, (s .pre .0 .halves-are, oil-below _ _ _ _ (s .pre .1) (c .before .before .h-at .ensures) (c .before .in-units .ensures) (c .if1 .taken)))
+    (s .pre .0 .logarithms, (s .pre .0 .thresholds-are, oil-below _ _ _ _ (s .pre .1) (c .before .before .h-at .ensures) (c .before .in-units .ensures) (c .if1 .taken)))
 
 returns : tie.Need-returns
 returns c =

@@ -2,7 +2,7 @@
 -- Assumes nothing.
 use mathlib.Core.Path.{refl}
 use borrow.Author.Needs.{needs}
-use Rattle.index.specs.Thresholds.{thresholds}
+use Rattle.index.specs.Thresholds.{thresholdTable}
 use Rattle.index.proofs.procedure_b_alone.Statement.{statement}
 use Rattle.index.proofs.procedure_b_alone.Tie as tie
 
@@ -13,7 +13,7 @@ second-table-requires : tie.Need-second-table-requires
 second-table-requires c κs = search needs
 
 procedure-b-requires : tie.Need-procedure-b-requires
-unfolding thresholds
+unfolding thresholdTable
 procedure-b-requires c κs =
     let t = c .before .before .before in
     (record { one = t .before .first-table .ensures; two = t .second-table .ensures }, (refl, t .before .before .pre))

@@ -7,7 +7,7 @@ use lib.ListN.{getD}
 use borrow.Author.Tests.{leb-true}
 use borrow.Author.Needs.{needs}
 use Rattle.index.proofs.Thresholds.{settled-by-thresholds}
-use Rattle.index.specs.Thresholds.{thresholds}
+use Rattle.index.specs.Thresholds.{thresholdTable}
 use Rattle.index.proofs.settled_by_thresholds.Statement.{statement}
 use Rattle.index.proofs.settled_by_thresholds.Tie as tie
 
@@ -47,9 +47,9 @@ wide-requires-2 c κs = search needs
 returns-3 : tie.Need-returns-3
 returns-3 c = λ e.
     let s = c .before .before .before .before .before .before in
-    let list : s .args .thresholds .now ≡ thresholds = s .pre .0 in
-    let here : c .before .before .before .wide .result ≡ getD thresholds (s .args .k - 100) 0 = c .before .before .before .wide .ensures ∙ rw list in
-    let next : c .wide2 .result ≡ getD thresholds (s .args .k - 100 + 1) 0 = c .wide2 .ensures ∙ rw list in
+    let list : s .args .thresholds .now ≡ thresholdTable = s .pre .0 in
+    let here : c .before .before .before .wide .result ≡ getD thresholdTable (s .args .k - 100) 0 = c .before .before .before .wide .ensures ∙ rw list in
+    let next : c .wide2 .result ≡ getD thresholdTable (s .args .k - 100 + 1) 0 = c .wide2 .ensures ∙ rw list in
     settled-by-thresholds (s .args .k) (s .args .p) (s .args .upper) (s .pre .1 .0) (omega arith) (s .pre .1 .2) (s .pre .1 .1) (omega arith)
     (omega (arith, leb-true (s .args .upper + 2) (c .wide2 .result) e))
 

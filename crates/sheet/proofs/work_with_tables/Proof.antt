@@ -3,7 +3,7 @@
 use mathlib.Core.Path.{refl}
 use borrow.Author.Needs.{needs}
 use Rattle.reference.specs.Table1.{table1}
-use Rattle.index.specs.Thresholds.{thresholds}
+use Rattle.index.specs.Thresholds.{thresholdTable}
 use Rattle.sheet.proofs.work_with_tables.Statement.{statement}
 use Rattle.sheet.proofs.work_with_tables.Tie as tie
 
@@ -14,13 +14,13 @@ second-table-requires : tie.Need-second-table-requires
 second-table-requires c κs = search needs
 
 work-pairs-requires : tie.Need-work-pairs-requires
-unfolding table1 thresholds
+unfolding table1 thresholdTable
 work-pairs-requires c κs =
     let at-second = c .before .before .before .before .before in (
       record {
         rows-are = refl;
         logarithms = record { one = at-second .before .first-table .ensures; two = at-second .second-table .ensures };
-        halves-are = refl;
+        thresholds-are = refl;
       },
       search needs,
     )
