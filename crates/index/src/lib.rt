@@ -272,10 +272,10 @@ fn power_of_two(f: u64) -> u64
     requires { ⌜ f < 16777216 ⌝ }
     ensures { λ r. ⌜ r < 17179869184 ⌝ }
 {
-    let cubic = step(222_243_073, 58_713_532, f);
-    let square = step(1_037_682_813, cubic, f);
-    let linear = step(2_976_296_038, square, f);
-    step(4_294_982_298, linear, f)
+    let cubic = step(222_008_401, 58_831_018, f);
+    let square = step(1_037_829_223, cubic, f);
+    let linear = step(2_976_266_834, square, f);
+    step(4_294_983_206, linear, f)
 }
 
 // A number from 100 to 9,999.
@@ -357,8 +357,8 @@ fn guess_to_355(p: u64) -> u64
     ensures { λ r. ⌜ (100 ≤ r) × (r < 10000) ⌝ }
 {
     let f = p % 16_777_216;
-    let cubic = step(981_663_600, 1_173_502_101, f);
-    let square = step(1_591_115_309, cubic, f);
+    let cubic = step(981_663_726, 1_173_501_918, f);
+    let square = step(1_591_115_290, cubic, f);
     let linear = step(1_348_622_236, square, f);
     step(421_547_260, linear, f) / 4_194_304
 }
