@@ -14,7 +14,8 @@ use lib.IntN.{ℤ}
 use Rattle.index.specs.declared.Pair.{Pair}
 use Rattle.index.specs.declared.Asked.the-variants as asked
 use Rattle.index.specs.declared.Answer.the-variants as answer
-use Rattle.index.specs.Questions.{refusal, Passes, askedOf}
+use Rattle.index.specs.Questions.{refusal}
+use Rattle.index.specs.Inner.{Passes, askedOf}
 use Rattle.index.specs.ProcedureA.{roundedA, indexA}
 use Rattle.index.specs.Chosen.{byB, OilBelowH, answerOf}
 use Rattle.index.proofs.Questions.{by-questions, none-refuses, refused-1, refused-2, refused-3}

@@ -12,7 +12,7 @@ use Rattle.reference.specs.Viscosity.{inUnits}
 use Rattle.reference.specs.Basis.{L-at, H-at}
 use Rattle.reference.proofs.Bounds.{bounds}
 use Rattle.logarithm.specs.Log2.{log2Of}
-use Rattle.index.specs.Questions.{Passes}
+use Rattle.index.specs.Inner.{Passes}
 use Rattle.index.specs.declared.Mark.the-variants as mark
 use Rattle.index.specs.declared.Answer.{Answer}
 use Rattle.index.specs.declared.Answer.the-variants as answer

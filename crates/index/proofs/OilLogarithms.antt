@@ -15,7 +15,7 @@ use Rattle.logarithm.specs.Log2.{log2Of, InRange, Enclosed}
 use Rattle.logarithm.proofs.Log2.{log2-enclosed}
 use Rattle.logarithm.proofs.Rise.{log2-rises}
 use Rattle.logarithm.proofs.FromLogarithms.{logs-le, one-above, one-below}
-use Rattle.index.specs.Questions.{Passes}
+use Rattle.index.specs.Inner.{Passes}
 use Rattle.index.specs.Chosen.{log1000}
 use Rattle.index.proofs.Constants.{thousand, two-below, one-two-eight-above}
 use Rattle.index.proofs.Numerators.{Logarithms}

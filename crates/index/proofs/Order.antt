@@ -17,7 +17,8 @@ use Rattle.logarithm.proofs.Rise.{log2-rises}
 use Rattle.index.specs.declared.Mark.the-variants as mark
 use Rattle.index.specs.declared.ByB.{ByB}
 use Rattle.index.specs.declared.Answer.{Answer}
-use Rattle.index.specs.Questions.{refusal, Passes}
+use Rattle.index.specs.Questions.{refusal}
+use Rattle.index.specs.Inner.{Passes}
 use Rattle.index.specs.Answer.{indexOf}
 use Rattle.index.specs.Chosen.{parts, log1000, showsMost, lowerFrom, upperFrom, lowerOfPair, upperOfPair, made, markedOf, byB, answerOf}
 use Rattle.index.proofs.Difference.{pos-le, order-joins}

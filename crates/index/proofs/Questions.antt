@@ -6,7 +6,8 @@ use native.Mathlib.Omega.{arith}
 use borrow.Author.Tests.{le-leb, lt-leb, lt-ltb, le-ltb}
 use Rattle.laws.proofs.Order.{by-order}
 use Rattle.reference.specs.Viscosity.{least100, greatest100, greatest40}
-use Rattle.index.specs.Questions.{refusal, Passes}
+use Rattle.index.specs.Questions.{refusal}
+use Rattle.index.specs.Inner.{Passes}
 
 pub refused-1 : (u y : ℕ) → y < least100 → refusal u y ≡ 1
 refused-1 u y a = simp (lt-leb least100 y a)

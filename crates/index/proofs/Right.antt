@@ -10,7 +10,8 @@ use Rattle.reference.specs.Basis.{H-at}
 use Rattle.logarithm.specs.Log2.{log2Of}
 use Rattle.index.specs.declared.Mark.the-variants as mark
 use Rattle.index.specs.declared.Answer.the-variants as answer
-use Rattle.index.specs.Questions.{refusal, Passes}
+use Rattle.index.specs.Questions.{refusal}
+use Rattle.index.specs.Inner.{Passes}
 use Rattle.index.specs.ProcedureA.{indexA}
 use Rattle.index.specs.ProcedureB.{Q, AtLeast, AtMost, SettledAt, NearAt}
 use Rattle.index.specs.Answer.{RightB, RightAnswer}

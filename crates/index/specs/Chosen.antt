@@ -18,7 +18,8 @@ use Rattle.index.specs.declared.Oil.{Oil}
 use Rattle.index.specs.declared.ByB.{ByB}
 use Rattle.index.specs.declared.Answer.{Answer}
 use Rattle.index.specs.declared.Answer.the-variants as answer
-use Rattle.index.specs.Questions.{refusal, Passes}
+use Rattle.index.specs.Questions.{refusal}
+use Rattle.index.specs.Inner.{Passes}
 use Rattle.index.specs.ProcedureA.{indexA}
 use Rattle.index.specs.ProcedureB.{c}
 

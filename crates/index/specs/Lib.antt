@@ -1,4 +1,5 @@
 pub mod Questions
+pub mod Inner
 pub mod ProcedureA
 pub mod ProcedureB
 pub mod Answer

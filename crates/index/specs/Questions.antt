@@ -1,10 +1,8 @@
 -- Document 01, 'Questions to a pair': u at 40 °C and y at 100 °C, in thousandths of a mm²/s.
 -- Assumes nothing.
-use Prim.Native.Nat.{ℕ, _<_, _≤_}
-use mathlib.Core.Bool.{Bool, true, false, cond}
-use lib.Dec.{ltb, leb, eqb}
-use Rattle.index.specs.declared.Asked.{Asked}
-use Rattle.index.specs.declared.Asked.the-variants.{Refused, Passed}
+use Prim.Native.Nat.{ℕ}
+use mathlib.Core.Bool.{Bool, true, false}
+use lib.Dec.{ltb, leb}
 use Rattle.reference.specs.Viscosity.{least100, greatest100, greatest40}
 
 -- a question and its number, then what comes after it: "Asked in this order; the first no gives its number."
@@ -23,17 +21,3 @@ refusal u y =
     (ask (leb u greatest40) 3
     -- "Is u greater than y? No: 4."
     (ask (ltb y u) 4 0)))
-
--- a pair that passes all four
-pub record Passes (u y : ℕ) : Type 0 where
-  pub least : least100 ≤ y
-  pub most : y ≤ greatest100
-  pub thickest : u ≤ greatest40
-  pub thicker : y < u
-
--- the number or the values of each case of what the questions say
-unfoldable pub askedOf : ℕ → ℕ → Asked
-askedOf u y =
-    cond (eqb (refusal u y) 0)
-    (Passed (record { u = record { thousandths = u }; y = record { thousandths = y } }))
-    (Refused (refusal u y))

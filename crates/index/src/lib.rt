@@ -17,7 +17,7 @@ ghost use Rattle.reference.specs.Viscosity.{least100, greatest100, greatest40};
 ghost use Rattle.logarithm.specs.Scale.{scaleNumber, width, bound};
 ghost use Rattle.logarithm.specs.Log2 as logarithm;
 ghost use Rattle.logarithm.specs.Log2.{log2Of};
-ghost use Rattle.index.specs.Questions.{Passes, askedOf};
+ghost use Rattle.index.specs.Inner.{Passes, askedOf};
 ghost use Rattle.index.specs.ProcedureA.{floorDiv, roundedA};
 ghost use Rattle.index.specs.ProcedureB.{c};
 ghost use Rattle.index.specs.Answer.{RightAnswer};

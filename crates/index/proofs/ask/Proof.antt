@@ -4,7 +4,7 @@ use mathlib.Core.Path.{sym, _∙_, ap₂}
 use native.Mathlib.Omega.{arith}
 use borrow.Author.Needs.{needs}
 use Rattle.reference.proofs.Asked.{within100, within40}
-use Rattle.index.specs.Questions.{askedOf}
+use Rattle.index.specs.Inner.{askedOf}
 use Rattle.index.proofs.Cases.{refused-at-100, refused-at-40}
 use Rattle.index.proofs.ask.Statement.{statement}
 use Rattle.index.proofs.ask.Tie as tie
