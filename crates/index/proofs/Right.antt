@@ -61,8 +61,8 @@ module _ (u y p P k : ℕ) (below : inUnits u < H-at y)
   marked-right = go (showsMost P (100 * k + 50)) refl
     where
       go : (t : Bool) → showsMost P (100 * k + 50) ≡ t → RightB u y (cond t (made k mark.Settled p P) (made (k + 1) mark.Near p P))
-      go true e = record { below = below; least = b .least; most = omega (arith, b .most); marked = settled e }
-      go false e = record { below = below; least = omega (arith, b .least); most = b .most; marked = near e }
+      go true e = record { below = below; least = omega (arith, b .least); most = omega (arith, b .most); marked = settled e }
+      go false e = record { below = below; least = omega (arith, b .least); most = omega (arith, b .most); marked = near e }
 
 pub by-b-right : (u y : ℕ) → Passes u y → inUnits u < H-at y → RightB u y (byB u y)
 unfolding byB lowerOfPair upperOfPair
