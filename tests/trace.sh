@@ -1,0 +1,30 @@
+#!/usr/bin/env bash
+# docs/TRACE.md and docs/PROMISES.md name nothing that is not there: each `crate/label` is a must-fail edit, each `crate/File.antt` a file of
+# specs/, each `crate:File` a file of proofs/; and every must-fail edit is named in one of the two.
+set -u
+cd "$(dirname "$0")/.." || exit 1
+documents=(docs/TRACE.md docs/PROMISES.md)
+bad=0
+miss() { echo "trace: $*"; bad=1; }
+
+crates=$(cd crates && echo *)
+crates=${crates// /|}
+named=$(grep -ohE "\`($crates)[/:][A-Za-z0-9_]+(\.antt)?\`" "${documents[@]}" | tr -d '`' | sort -u)
+[ -n "$named" ] || miss "no names found"
+count=0
+for name in $named; do
+    case $name in
+    *.antt) path=crates/${name%%/*}/specs/${name#*/} ;;
+    *:*) path=crates/${name%%:*}/proofs/${name#*:}.antt ;;
+    *) path=crates/${name%%/*}/must-fail/${name#*/}.edit ;;
+    esac
+    [ -f "$path" ] || miss "$name: there is no $path"
+    count=$((count + 1))
+done
+for edit in crates/*/must-fail/*.edit; do
+    name=${edit#crates/}
+    name=${name/\/must-fail\//\/}
+    grep -qF "\`${name%.edit}\`" "${documents[@]}" || miss "${name%.edit} is named in neither document"
+done
+[ "$bad" -eq 0 ] && echo "trace: $count names, and every must-fail edit, are there"
+exit "$bad"
