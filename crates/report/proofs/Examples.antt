@@ -2,12 +2,12 @@
 -- Assumes nothing.
 use mathlib.Core.Path.{refl}
 use native.Mathlib.Omega.{arith}
-use Rattle.report.specs.Text.{viscosity, lineOf, firstLine, refusedLine}
+use Rattle.report.specs.Text.{viscosity, printedLine, firstLine, refusedLine}
 use Rattle.report.specs.Examples.{ExampleLines}
 use Rattle.report.proofs.Digits.{ten-digits}
 
 pub example-lines : ExampleLines
-unfolding lineOf firstLine refusedLine viscosity
+unfolding printedLine firstLine refusedLine viscosity
 example-lines = record {
   first = rw (ten-digits 3 (omega arith));
   by-a = rw (ten-digits 73 (omega arith), ten-digits 8 (omega arith), ten-digits 92 (omega arith));

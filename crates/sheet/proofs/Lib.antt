@@ -1,6 +1,7 @@
 pub mod Stores
 pub mod Signed
 pub mod Questions
+pub mod Blocks
 pub mod Records
 pub mod Worked
 pub mod Fields

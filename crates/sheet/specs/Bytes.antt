@@ -8,11 +8,15 @@ use lib.IntN.{ℤ, pos, negsuc}
 use lib.ListN.{getD}
 use lib.Seq.{sets}
 
--- the 32-bit number whose four bytes begin at `at`
+-- how many bytes a 32-bit number is
+abbrev pub numberSize : ℕ
+numberSize = 4
+
+-- the 32-bit number whose bytes begin at `at`
 unfoldable pub numberAt : List ℕ → ℕ → ℕ
 numberAt bytes at = getD bytes at 0 + 256 * (getD bytes (at + 1) 0 + 256 * (getD bytes (at + 2) 0 + 256 * getD bytes (at + 3) 0))
 
--- the four bytes of a 32-bit number
+-- the bytes of a 32-bit number
 unfoldable pub bytesOf : ℕ → List ℕ
 bytesOf x = x % 256 ∷ x / 256 % 256 ∷ x / 256 / 256 % 256 ∷ x / 256 / 256 / 256 % 256 ∷ []
 

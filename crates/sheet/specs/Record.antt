@@ -12,6 +12,19 @@ use Rattle.sheet.specs.Bytes.{numberAt, bytesOf, twosComplement, signedO
 abbrev pub resultSize : ℕ
 resultSize = 16
 
+-- where the method, the index, p and P stand in a result; the pair's number is byte 0
+abbrev pub methodPlace : ℕ
+methodPlace = 1
+
+abbrev pub indexPlace : ℕ
+indexPlace = 4
+
+abbrev pub lowerPlace : ℕ
+lowerPlace = 8
+
+abbrev pub upperPlace : ℕ
+upperPlace = 12
+
 -- bytes 0 to 3
 unfoldable pub headOf : ℕ → ℕ → List ℕ
 headOf number method = number ∷ method ∷ 0 ∷ 0 ∷ []
@@ -28,14 +41,17 @@ recordOf a = laidOut (numberOf a) (methodOf a) (twosComplement (indexOf a)) (low
 abbrev pub recordAt : List ℕ → ℕ → List ℕ
 recordAt sheet at = take resultSize (drop at sheet)
 
+abbrev pub refusalAt : List ℕ → ℕ → ℕ
+refusalAt sheet at = getD sheet at 0
+
 abbrev pub methodAt : List ℕ → ℕ → ℕ
-methodAt sheet at = getD sheet (at + 1) 0
+methodAt sheet at = getD sheet (at + methodPlace) 0
 
 abbrev pub indexAt : List ℕ → ℕ → ℤ
-indexAt sheet at = signedOf (numberAt sheet (at + 4))
+indexAt sheet at = signedOf (numberAt sheet (at + indexPlace))
 
 abbrev pub lowerAt : List ℕ → ℕ → ℕ
-lowerAt sheet at = numberAt sheet (at + 8)
+lowerAt sheet at = numberAt sheet (at + lowerPlace)
 
 abbrev pub upperAt : List ℕ → ℕ → ℕ
-upperAt sheet at = numberAt sheet (at + 12)
+upperAt sheet at = numberAt sheet (at + upperPlace)

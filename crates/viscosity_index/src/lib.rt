@@ -7,9 +7,7 @@ ghost use Rattle.sheet.specs.Demand3.{Demand3};
 ghost use Rattle.viscosity_index.specs.PairCall.{pairNumber, recordAfter};
 use index::Answer;
 use sheet::SheetAnswer;
-
-// A record is one result of a sheet.
-const RECORD_SIZE: usize = 16;
+use sheet::layout::RESULT_SIZE;
 
 // The number of an answer, 0 if the pair is answered.
 fn number_of(answer: Answer) -> u32
@@ -39,7 +37,7 @@ pub extern "C" fn vi_pair(u: u32, y: u32, record: &mut [u8]) -> u32
     ensures bytes { λ _. ⌜ now («record» .exit) ≡ recordAfter (now («record» .entry)) u y ⌝ }
     ensures right { λ _. ⌜ RightAnswer u y (answerOf u y) ⌝ }
 {
-    if record.len() != RECORD_SIZE {
+    if record.len() != RESULT_SIZE {
         return 5;
     }
     let answer = index::answer_pair(u, y);
