@@ -40,8 +40,7 @@ shown before after i (B b) f r q h =
 
 after-the-call : (s : List ℕ) → sheetRefusal s ≡ 0 → AfterTheCall s (sheetAfter s)
 after-the-call s q = record {
-  records = λ i h. record-found s q i h;
-  right = λ i h. right _ _;
+  records = λ i h. record { answer = _; alone = refl; right = right _ _; laid-out = record-found s q i h };
   below = λ i h. shown s (sheetAfter s) i _ (record-read s q i h) (right _ _);
   order = λ i j h k a b e m n l.
       rw (record-read s q i h .index, record-read s q j k .index, e)

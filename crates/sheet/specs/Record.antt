@@ -2,11 +2,13 @@
 -- 3 B near); bytes 2 and 3 zero; 4 to 7 the index, two's complement; 8 to 11 p; 12 to 15 P. What does not apply is zero."
 -- Assumes nothing.
 use Prim.Native.Nat.{ℕ, _+_}
+use mathlib.Core.Path.{_≡_}
 use mathlib.Core.List.{List, [], _∷_, _++_}
 use lib.IntN.{ℤ}
 use lib.ListN.{getD, take, drop}
 use Rattle.index.specs.declared.Answer.{Answer}
-use Rattle.index.specs.Answer.{numberOf, methodOf, indexOf, lowerOf, upperOf}
+use Rattle.index.specs.Answer.{numberOf, methodOf, indexOf, lowerOf, upperOf, RightAnswer}
+use Rattle.index.specs.Chosen.{answerOf}
 use Rattle.sheet.specs.Bytes.{numberAt, bytesOf, twosComplement, signedOf}
 
 abbrev pub resultSize : ℕ
@@ -55,3 +57,11 @@ lowerAt sheet at = numberAt sheet (at + lowerPlace)
 
 abbrev pub upperAt : List ℕ → ℕ → ℕ
 upperAt sheet at = numberAt sheet (at + upperPlace)
+
+-- bytes that are the record of a pair: there is an answer to it, the one that it gets when asked alone and right by document 01's questions and
+-- procedures, and the bytes are its record
+pub record RecordOfPair (u y : ℕ) (bytes : List ℕ) : Type 0 where
+  pub answer : Answer
+  pub alone : answer ≡ answerOf u y
+  pub right : RightAnswer u y answer
+  pub laid-out : bytes ≡ recordOf answer
