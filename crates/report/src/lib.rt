@@ -11,20 +11,11 @@ ghost use Rattle.sheet.specs.Inner.{PairWithin, BlocksWithin};
 ghost use Rattle.report.specs.Text.{ascii, lineEnd, digit, decimal, viscosity, signedDecimal, worded, firstLine, refusedLine, printed, textAfter, inputAfter};
 ghost use Rattle.report.specs.Inner.{Put, viscosityWidth, indexWidth, wordedWidth, outcomeWidth, lineWidth, firstLineWidth, textWidth, refusedLineWidth, outcomeBy, outcomeAt, lineAt, linesAt, Readable};
 use sheet::SheetAnswer;
-use sheet::layout::FIRST_NEGATIVE;
-use sheet::layout::INDEX_AT;
-use sheet::layout::LAST_NEGATIVE;
-use sheet::layout::METHOD_A;
-use sheet::layout::METHOD_AT;
-use sheet::layout::METHOD_B_SETTLED;
-use sheet::layout::METHOD_REFUSED;
-use sheet::layout::PAIRS_AT;
-use sheet::layout::RESULT_SIZE;
-use sheet::layout::RESULTS_AT;
+use sheet::layout::*;
 
-// The longest text. Its first line, "pairs 2000", is 11 bytes with its end; each of 2,000 lines is at most 39: two viscosities of at most
+// The longest text. Its first line, "pairs 2000", is 11 bytes with its end; each line of a pair is at most 39: two viscosities of at most
 // 11 bytes (4294967.295), a method of at most 2 (B~), an index of at most 11 with its sign, three spaces and the line's end.
-pub const TEXT_SIZE: usize = 78_011;
+pub const TEXT_SIZE: usize = 11 + 39 * MOST_PAIRS;
 
 // Longer input is refused.
 pub const MOST_INPUT: usize = 65_536;

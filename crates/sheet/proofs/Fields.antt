@@ -11,7 +11,7 @@ use lib.Seq.{getD-take, getD-drop, drop-append-le, take-append-le, drop-append-a
 use Rattle.laws.proofs.Order.{by-order}
 use Rattle.index.specs.declared.Answer.{Answer}
 use Rattle.index.specs.Answer.{numberOf, methodOf, indexOf, lowerOf, upperOf}
-use Rattle.sheet.specs.Bytes.{span32, numberSize, numberAt, bytesOf, signedOf}
+use Rattle.sheet.specs.Bytes.{span32, numberSize, joined, numberAt, bytesOf, signedOf}
 use Rattle.sheet.specs.Record.{resultSize, methodPlace, indexPlace, lowerPlace, upperPlace, headOf, laidOut, recordOf, recordAt, refusalAt, methodAt, indexAt, lowerAt, upperAt}
 use Rattle.sheet.specs.Sheet.{countOf, pairsOf, resultsOf, resultsEnd, answerAt, recordsOf, sheetRefusal, sheetAfter}
 use Rattle.sheet.proofs.Signed.{signed-back, twos-complement-fits}
@@ -28,8 +28,8 @@ rejoined x = omega arith
 last : (x : ℕ) → x < span32 → x / 256 / 256 / 256 % 256 ≡ x / 256 / 256 / 256
 last x h = omega arith
 
-pub joined : (x : ℕ) → x < span32 → x % 256 + 256 * (x / 256 % 256 + 256 * (x / 256 / 256 % 256 + 256 * (x / 256 / 256 / 256 % 256))) ≡ x
-joined x h = rw (last x h, rejoined (x / 256 / 256), rejoined (x / 256), rejoined x)
+joined-again : (x : ℕ) → x < span32 → joined (x % 256) (x / 256 % 256) (x / 256 / 256 % 256) (x / 256 / 256 / 256 % 256) ≡ x
+joined-again x h = rw (last x h, rejoined (x / 256 / 256), rejoined (x / 256), rejoined x)
 
 -- the fields of a record that stands alone
 module _ (number method index lower upper : ℕ) where
@@ -43,15 +43,15 @@ module _ (number method index lower upper : ℕ) where
 
   laid-index : index < span32 → numberAt (laidOut number method index lower upper) indexPlace ≡ index
   unfolding laidOut headOf bytesOf numberAt
-  laid-index h = joined index h
+  laid-index h = joined-again index h
 
   laid-lower : lower < span32 → numberAt (laidOut number method index lower upper) lowerPlace ≡ lower
   unfolding laidOut headOf bytesOf numberAt
-  laid-lower h = joined lower h
+  laid-lower h = joined-again lower h
 
   laid-upper : upper < span32 → numberAt (laidOut number method index lower upper) upperPlace ≡ upper
   unfolding laidOut headOf bytesOf numberAt
-  laid-upper h = joined upper h
+  laid-upper h = joined-again upper h
 
 -- a byte and a number of a record within a longer list
 part-byte : (l : List ℕ) (at j : ℕ) → j < resultSize → getD l (at + j) 0 ≡ getD (recordAt l at) j 0

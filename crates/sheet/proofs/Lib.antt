@@ -1,3 +1,5 @@
+-- The laws of sheets and records: what the proofs of the functions cite, and the crates above.
+-- Assumes nothing.
 pub mod Stores
 pub mod Signed
 pub mod Questions

@@ -7,7 +7,7 @@ ghost use Prim.Native.Nat.{_+_, _*_, _≤_, _<_};
 ghost use lib.ListN.{length};
 ghost use Rattle.index.specs.Answer.{methodOfMark};
 ghost use Rattle.index.specs.Lent.{Lent};
-ghost use Rattle.sheet.specs.Bytes.{numberSize, numberAt, bytesOf, twosComplement, stored};
+ghost use Rattle.sheet.specs.Bytes.{numberSize, joined, numberAt, bytesOf, twosComplement, stored};
 ghost use Rattle.sheet.specs.Record.{resultSize, laidOut, recordOf};
 ghost use Rattle.sheet.specs.Sheet.{standsWithin, shareNoByte, sheetRefusal, pairSize, uAt, yAt, answerAt, recordsOf, sheetAnswerOf, sheetAfter};
 ghost use Rattle.sheet.specs.Demand3.{Demand3};
@@ -15,24 +15,7 @@ ghost use Rattle.sheet.specs.Inner.{PairWithin, BlocksWithin};
 use index::Answer;
 use index::Mark;
 use index::threshold_table::THRESHOLDS;
-use layout::ANSWERED;
-use layout::COUNT_AT;
-use layout::HEADER_SIZE;
-use layout::INDEX_AT;
-use layout::LAST_NEGATIVE;
-use layout::LOWER_AT;
-use layout::METHOD_A;
-use layout::METHOD_B_NEAR;
-use layout::METHOD_B_SETTLED;
-use layout::METHOD_REFUSED;
-use layout::MOST_PAIRS;
-use layout::PAIR_SIZE;
-use layout::PAIRS_AT;
-use layout::RESULT_SIZE;
-use layout::RESULTS_AT;
-use layout::TOTAL_AT;
-use layout::UPPER_AT;
-use layout::Y_AT;
+use layout::*;
 use reference::table1::TABLE1;
 
 // The answer to a sheet: refused by the question of that number, or accepted with its count of pairs.
@@ -50,23 +33,19 @@ pub struct Pair {
 // The number of a sheet that fails no question.
 const NONE_FAILED: u8 = 0;
 
-// A byte as a wider number.
-fn wide(x: u8) -> u32
-    ensures { λ r. ⌜ (r ≡ x) × (r < 256) ⌝ }
+// The 32-bit number of four bytes, least significant first.
+fn joined(b0: u8, b1: u8, b2: u8, b3: u8) -> u32
+    ensures { λ r. ⌜ r ≡ joined b0 b1 b2 b3 ⌝ }
 {
-    x as u32
+    b0 as u32 + 256 * (b1 as u32 + 256 * (b2 as u32 + 256 * (b3 as u32)))
 }
 
-// The 32-bit number at `at`, least significant byte first. An inner function, for callers that know its four bytes to be there.
+// The 32-bit number at `at`. An inner function, for callers that know its four bytes to be there.
 pub fn number_at(bytes: &[u8], at: usize) -> u32
     requires { ⌜ at + numberSize ≤ length (now bytes) ⌝ }
     ensures { λ r. ⌜ r ≡ numberAt (now (bytes .entry)) at ⌝ }
 {
-    let b0 = wide(bytes[at]);
-    let b1 = wide(bytes[at + 1]);
-    let b2 = wide(bytes[at + 2]);
-    let b3 = wide(bytes[at + 3]);
-    b0 + 256 * (b1 + 256 * (b2 + 256 * b3))
+    joined(bytes[at], bytes[at + 1], bytes[at + 2], bytes[at + 3])
 }
 
 // Pair i of those that begin at `pairs`. An inner function, for callers that know its bytes to be there.
