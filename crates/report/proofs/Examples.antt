@@ -1,6 +1,5 @@
 -- The lines of document 01, and one of each other kind, computed from the definitions: each number has at most ten digits.
 -- Assumes nothing.
-use mathlib.Core.Path.{refl}
 use native.Mathlib.Omega.{arith}
 use Rattle.report.specs.Text.{viscosity, printedLine, firstLine, refusedLine}
 use Rattle.report.specs.Examples.{ExampleLines}

@@ -12,7 +12,7 @@ use Rattle.index.proofs.Right.{right}
 use Rattle.sheet.specs.declared.SheetAnswer.{SheetAnswer}
 use Rattle.sheet.specs.Bytes.{stored}
 use Rattle.sheet.specs.Record.{resultSize, recordOf}
-use Rattle.sheet.specs.Sheet.{sheetRefusal, sheetAnswerOf, sheetAfter, sheetNumberOf}
+use Rattle.sheet.specs.Sheet.{sheetRefusal, sheetAnswerOf, sheetNumberOf}
 use Rattle.sheet.proofs.Stores.{stored-whole}
 use Rattle.sheet.proofs.Records.{length-record}
 use Rattle.sheet.proofs.Worked.{number-of-answer}
@@ -49,7 +49,7 @@ filled lent after u y number {a} h e f g =
       };
     }
 
--- a sheet
-pub sheet-called : (before after : List ℕ) (n : ℕ) {a : SheetAnswer} → n ≡ sheetNumberOf a → a ≡ sheetAnswerOf before → after ≡ sheetAfter before
-    → (n ≡ sheetRefusal before) × (after ≡ sheetAfter before)
-sheet-called before after n e f g = (e ∙ ap sheetNumberOf f ∙ number-of-answer before, g)
+-- the number of the answer to a sheet
+pub sheet-number : (before : List ℕ) {number : ℕ} {a : SheetAnswer} → number ≡ sheetNumberOf a → a ≡ sheetAnswerOf before
+    → number ≡ sheetRefusal before
+sheet-number before e f = e ∙ ap sheetNumberOf f ∙ number-of-answer before

@@ -1,7 +1,7 @@
 -- A record of another length is left as it is; one of 16 bytes becomes the record of the pair's answer.
 -- Assumes nothing.
 use borrow.Author.Needs.{needs}
-use Rattle.viscosity_index.proofs.Calls.{PairPromise, untouched, filled}
+use Rattle.viscosity_index.proofs.Calls.{untouched, filled}
 use Rattle.viscosity_index.proofs.vi_pair.Statement.{statement}
 use Rattle.viscosity_index.proofs.vi_pair.Tie as tie
 
