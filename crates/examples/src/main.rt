@@ -1,16 +1,15 @@
 // All pairs and sheets of document 01's 'Pairs and sheets to try', through the public operations: each line names an example and what the document
 // says of it, and ends in "ok" where the operation answers just that, in "WRONG" where it does not.
 ghost use Prim.Native.Nat.{_<_};
+ghost use Rattle.sheet.specs.Sheet.{headerSize};
 use index::Answer;
 use index::Mark;
 use libc::STDOUT_FILENO;
 use reference::Reference;
 use sheet::SheetAnswer;
-
-// The places of the two offsets in the header of a sheet.
-const PAIRS_AT: usize = 4;
-
-const RESULTS_AT: usize = 8;
+use sheet::layout::HEADER_SIZE;
+use sheet::layout::PAIRS_AT;
+use sheet::layout::RESULTS_AT;
 
 fn told(example: &[u8], good: bool) {
     io::write_all(STDOUT_FILENO, example);
@@ -78,13 +77,13 @@ fn refused(u: u32, y: u32, number: u8) -> bool {
 }
 
 // A sheet that is a header and nothing else: n 0, offsets 16 and 16, total 16.
-fn header_alone() -> [u8; 16] {
+fn header_alone() -> [u8; HEADER_SIZE] {
     [0, 0, 0, 0, 16, 0, 0, 0, 16, 0, 0, 0, 16, 0, 0, 0]
 }
 
 // Is a header alone, with the byte `x` at `at`, refused by that number and kept? Number 0: is it accepted with no pairs, and kept?
 fn sheet_answers(at: usize, x: u8, number: u8) -> bool
-    requires { ⌜ at < 16 ⌝ }
+    requires { ⌜ at < headerSize ⌝ }
 {
     let mut handed = header_alone();
     handed[at] = x;

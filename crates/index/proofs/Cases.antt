@@ -11,7 +11,7 @@ use Rattle.reference.specs.Viscosity.{least100, greatest100, greatest40, asked1
 use Rattle.reference.specs.Basis.{L-at, H-at}
 use Rattle.reference.proofs.Bounds.{bounds}
 use lib.IntN.{ℤ}
-use Rattle.index.specs.declared.Pair.{Pair}
+use Rattle.index.specs.declared.Viscosities.{Viscosities}
 use Rattle.index.specs.declared.Asked.the-variants as asked
 use Rattle.index.specs.declared.Answer.the-variants as answer
 use Rattle.index.specs.Questions.{refusal}
@@ -58,7 +58,7 @@ pub asked-refused : (u y n : ℕ) → refusal u y ≡ n → 0 < n → askedOf u 
 unfolding askedOf
 asked-refused u y n e p = rw (e, ne-eqb n 0 (λ z. omega arith))
 
-abbrev pub pairOf : ℕ → ℕ → Pair
+abbrev pub pairOf : ℕ → ℕ → Viscosities
 pairOf u y = record { u = record { thousandths = u }; y = record { thousandths = y } }
 
 pub asked-passed : (u y : ℕ) → Passes u y → askedOf u y ≡ asked.Passed (pairOf u y)
@@ -100,15 +100,15 @@ refused-answer u y n e =
         sym (answer-refused u y n (r ∙ g) (omega arith))
 
 -- a pair that the questions let through is the pair that was asked about
-pub record Same (u y : ℕ) (pair : Pair) : Type 0 where
+pub record Same (u y : ℕ) (pair : Viscosities) : Type 0 where
   pub passes : Passes (pair .u .thousandths) (pair .y .thousandths)
   pub answer : answerOf (pair .u .thousandths) (pair .y .thousandths) ≡ answerOf u y
 
-pub passed-pair : (u y : ℕ) (pair : Pair) → askedOf u y ≡ asked.Passed pair → Same u y pair
+pub passed-pair : (u y : ℕ) (pair : Viscosities) → askedOf u y ≡ asked.Passed pair → Same u y pair
 passed-pair u y pair e =
     by-questions u y (clash 1 (omega arith)) (clash 2 (omega arith)) (clash 3 (omega arith)) (clash 4 (omega arith))
     (λ a. let f : asked.Passed (pairOf u y) ≡ asked.Passed pair = sym (asked-passed u y a) ∙ e in
-    let g : _≡_ {A = Pair} (pairOf u y) pair = cc in
+    let g : _≡_ {A = Viscosities} (pairOf u y) pair = cc in
     subst (Same u y) g (record { passes = a; answer = refl }))
   where
     clash : (n : ℕ) → 0 < n → refusal u y ≡ n → Same u y pair

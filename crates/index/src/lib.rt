@@ -61,8 +61,8 @@ pub struct Oil {
     pub h: u64,
 }
 
-// A pair whose viscosities are within their limits.
-pub struct Pair {
+// The two viscosities of a pair, each within its limits.
+pub struct Viscosities {
     pub u: Kv40,
     pub y: Kv100,
 }
@@ -70,7 +70,7 @@ pub struct Pair {
 // What questions 1 to 4 say of a pair: refused by the question of that number, or passed.
 pub enum Asked {
     Refused(u8),
-    Passed(Pair),
+    Passed(Viscosities),
 }
 
 // What trying k says of the index: k is settled, k + 1 is near, the index is higher, or it is lower.
@@ -104,7 +104,7 @@ fn ask_which_is_greater(u: Kv40, y: Kv100) -> Asked
     if u.thousandths <= y.thousandths {
         return Asked::Refused(4);
     }
-    Asked::Passed(Pair { u, y })
+    Asked::Passed(Viscosities { u, y })
 }
 
 // ---- procedure A
@@ -449,7 +449,7 @@ fn answer_passed(
     first: &[u32; 512],
     second: &[u32; 512],
     thresholds: &[u32; 257],
-    pair: Pair,
+    pair: Viscosities,
 ) -> Answer
     requires lent { ⌜ Lent (now rows) (now first) (now second) (now thresholds) ⌝ }
     requires { ⌜ Passes (pair .u .thousandths) (pair .y .thousandths) ⌝ }
@@ -472,7 +472,7 @@ fn answer_passed(
 }
 
 // The same for one pair: of the tables, those are copied that it needs.
-fn answer_alone(pair: Pair) -> Answer
+fn answer_alone(pair: Viscosities) -> Answer
     requires { ⌜ Passes (pair .u .thousandths) (pair .y .thousandths) ⌝ }
     ensures { λ r. ⌜ r ≡ answerOf (pair .u .thousandths) (pair .y .thousandths) ⌝ }
 {

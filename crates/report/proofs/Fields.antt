@@ -12,28 +12,28 @@ use Rattle.index.specs.declared.Answer.{Answer}
 use Rattle.index.specs.declared.Answer.the-variants.{Refused, A, B}
 use Rattle.index.specs.Answer.{numberOf, methodOfMark, methodOf, indexOf}
 use Rattle.sheet.specs.Bytes.{span32, half32, signedOf}
-use Rattle.report.specs.Text.{ascii, space, decimal, signed, procedureB, outcome}
+use Rattle.report.specs.Text.{ascii, decimal, signedDecimal, worded, procedureB, outcome}
 use Rattle.report.specs.Inner.{outcomeBy}
 
 -- an index in two's complement: its digits in the lower half, a sign and the digits of 2^32 − x in the upper
-pub not-below-zero : (x : ℕ) → x < half32 → decimal x ≡ signed (signedOf x)
+pub not-below-zero : (x : ℕ) → x < half32 → decimal x ≡ signedDecimal (signedOf x)
 not-below-zero x h = rw (lt-ltb _ _ h)
 
-pub below-zero : (x : ℕ) → half32 ≤ x → x < span32 → ascii "-" ++ decimal (4294967295 - x + 1) ≡ signed (signedOf x)
+pub below-zero : (x : ℕ) → half32 ≤ x → x < span32 → ascii "-" ++ decimal (span32 - 1 - x + 1) ≡ signedDecimal (signedOf x)
 below-zero x h k =
-    let size : 4294967295 - x + 1 ≡ span32 - suc x + 1 = omega arith in
+    let size : span32 - 1 - x + 1 ≡ span32 - suc x + 1 = omega arith in
     rw (le-ltb _ _ h) (ap (λ (n : ℕ). ascii "-" ++ decimal n) size)
 
 -- the last method
 pub near-outcome : (number method : ℕ) (index : ℤ) → (method ≡ 0 → ⊥) → (method ≡ 1 → ⊥) → (method ≡ 2 → ⊥)
-    → ascii "B~" ++ (space ++ signed index) ≡ outcomeBy number method index
+    → worded (ascii "B~") (signedDecimal index) ≡ outcomeBy number method index
 near-outcome number zero index a b d = absurd (a refl)
 near-outcome number (suc zero) index a b d = absurd (b refl)
 near-outcome number (suc (suc zero)) index a b d = absurd (d refl)
 near-outcome number (suc (suc (suc more))) index a b d = refl
 
 -- the outcome by the fields of an answer's record is the answer's
-by-mark : (m : Mark) (k : ℕ) → outcomeBy 0 (methodOfMark m) (pos k) ≡ procedureB m ++ (space ++ decimal k)
+by-mark : (m : Mark) (k : ℕ) → outcomeBy 0 (methodOfMark m) (pos k) ≡ worded (procedureB m) (decimal k)
 by-mark mark.Settled k = refl
 by-mark mark.Near k = refl
 

@@ -1,26 +1,24 @@
 -- Lines read from a sheet: a field by the number that was read, and one line after another.
 -- Assumes nothing.
-use Prim.Native.Nat.{ℕ, _+_, _*_, _<_}
+use Prim.Native.Nat.{ℕ, _+_, _*_}
 use mathlib.Core.Path.{_≡_}
 use mathlib.Core.List.{List}
 use native.Mathlib.Numerals.{add-one}
 use native.Mathlib.Omega.{arith}
-use lib.ListN.{getD}
 use Rattle.sheet.specs.Bytes.{numberAt, signedOf}
-use Rattle.sheet.specs.Record.{methodAt, resultSize}
-use Rattle.sheet.specs.Sheet.{pairsOf, resultsOf, uAt, yAt}
-use Rattle.sheet.specs.Inner.{PairWithin, BlocksWithin}
-use Rattle.report.specs.Text.{lineOf}
+use Rattle.sheet.specs.Record.{resultSize, indexPlace, refusalAt, methodAt}
+use Rattle.sheet.specs.Sheet.{uAt, yAt}
+use Rattle.report.specs.Text.{printedLine}
 use Rattle.report.specs.Inner.{Put, lineWidth, outcomeBy, outcomeAt, lineAt, linesAt}
 use Rattle.report.proofs.Puts.{put-then, put-within, put-none}
 
-pub outcome-put : (sheet : List ℕ) (from : ℕ) {bits w at r : ℕ} {l m : List ℕ} → bits ≡ numberAt sheet (from + 4)
-    → Put w l at (outcomeBy (getD sheet from 0) (methodAt sheet from) (signedOf bits)) m r → Put w l at (outcomeAt sheet from) m r
+pub outcome-put : (sheet : List ℕ) (from : ℕ) {bits w at r : ℕ} {l m : List ℕ} → bits ≡ numberAt sheet (from + indexPlace)
+    → Put w l at (outcomeBy (refusalAt sheet from) (methodAt sheet from) (signedOf bits)) m r → Put w l at (outcomeAt sheet from) m r
 outcome-put sheet from e p = rw e at p
 
 module _ (sheet : List ℕ) (pairs results : ℕ) where
   pub line-put : (i : ℕ) {u y w at r : ℕ} {l m : List ℕ} → u ≡ uAt sheet pairs i → y ≡ yAt sheet pairs i
-      → Put w l at (lineOf u y (outcomeAt sheet (results + resultSize * i))) m r → Put w l at (lineAt sheet pairs results i) m r
+      → Put w l at (printedLine u y (outcomeAt sheet (results + resultSize * i))) m r → Put w l at (lineAt sheet pairs results i) m r
   line-put i u y p = rw (u, y) at p
 
   pub no-lines : (l : List ℕ) (at : ℕ) → Put (lineWidth * 0) l at (linesAt sheet pairs results 0) l at
@@ -31,11 +29,3 @@ module _ (sheet : List ℕ) (pairs results : ℕ) where
       → Put lineWidth m p (lineAt sheet pairs results i) k r → Put (lineWidth * (i + 1)) l at (linesAt sheet pairs results (i + 1)) k r
   unfolding linesAt
   one-more i a b = put-within {v = lineWidth * i + lineWidth} (rw (add-one i) (put-then a b)) (omega arith)
-
-  -- the blocks of a sheet, by the offsets that were read from its header
-  pub blocks-at : {size n : ℕ} → pairs ≡ pairsOf sheet → results ≡ resultsOf sheet
-      → BlocksWithin size n (pairsOf sheet) (resultsOf sheet) → BlocksWithin size n pairs results
-  blocks-at p r b = rw (p, r) b
-
-pub pair-within : {size n pairs results : ℕ} (i : ℕ) → BlocksWithin size n pairs results → i < n → PairWithin size pairs results i
-pair-within i b h = record { pair = omega (arith, b .pairs-end); result = omega (arith, b .results-end) }

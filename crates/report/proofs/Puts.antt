@@ -9,7 +9,7 @@ use native.Mathlib.Omega.{arith}
 use lib.ListN.{length, getD, take, drop, set, length-append}
 use lib.Seq.{length-take-le, take-suc}
 use Rattle.sheet.specs.Bytes.{stored}
-use Rattle.sheet.proofs.Stores.{length-stored, stored-append, stored-parts}
+use Rattle.sheet.proofs.Stores.{length-stored, stored-append, stored-then, stored-parts}
 use Rattle.report.specs.Inner.{Put}
 
 pub put-length : {w at r : ℕ} {l m vs : List ℕ} → Put w l at vs m r → length m ≡ length l
@@ -18,10 +18,9 @@ put-length p = ap length (p .bytes) ∙ length-stored _ _ _
 -- two texts, one behind the other
 pub put-then : {v w at p r : ℕ} {l m k vs ws : List ℕ} → Put v l at vs m p → Put w m p ws k r → Put (v + w) l at (vs ++ ws) k r
 put-then {v} {w} {at} {p} {r} {l} {m} {k} {vs} {ws} a b =
-    let behind : k ≡ stored (stored l at vs) (at + length vs) ws = rw (a .bytes, a .past) at (b .bytes) in
     let sum = length-append vs ws in
     record {
-      bytes = behind ∙ stored-append l vs ws at;
+      bytes = stored-then l vs ws at (a .bytes) (a .past) (b .bytes);
       past = omega (arith, sum, a .past, b .past);
       short = omega (arith, sum, a .short, b .short);
     }

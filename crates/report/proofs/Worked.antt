@@ -3,88 +3,56 @@
 use Prim.Native.Nat.{ℕ, zero, suc, _+_, _*_, _≤_, _<_}
 use mathlib.Core.Path.{_≡_, refl, sym, ap, _∙_}
 use mathlib.Core.List.{List, _++_}
-use mathlib.Core.Logic.{_⊎_, inl, inr, ⊎-elim}
-use native.Mathlib.Nat.{add-zero}
 use native.Mathlib.Omega.{arith}
 use borrow.Author.Tests.{eq-eqb, le-leb, lt-leb}
-use lib.ListN.{length, getD, take, drop}
-use lib.Seq.{getD-take, getD-drop}
-use Rattle.index.specs.declared.Answer.{Answer}
-use Rattle.index.specs.Answer.{numberOf}
-use Rattle.index.proofs.Fits.{fits}
+use lib.ListN.{length}
 use Rattle.sheet.specs.declared.SheetAnswer.{SheetAnswer}
 use Rattle.sheet.specs.declared.SheetAnswer.the-variants.{Refused, Accepted}
-use Rattle.sheet.specs.Bytes.{numberAt}
-use Rattle.sheet.specs.Record.{resultSize, headOf, laidOut, recordOf, recordAt}
-use Rattle.sheet.specs.Sheet.{pairSize, countOf, pairsOf, resultsOf, resultsEnd, uAt, yAt, answerAt, recordsOf, sheetRefusal, sheetAnswerOf, sheetAfter, sheetNumberOf}
-use Rattle.sheet.proofs.Stores.{number-kept}
-use Rattle.sheet.proofs.Questions.{accepted}
-use Rattle.sheet.proofs.Records.{length-records}
-use Rattle.sheet.proofs.Worked.{all-stored, number-of-answer, same-length}
-use Rattle.sheet.proofs.Fields.{method-read, index-read, record-found}
-use Rattle.report.specs.Text.{outcome, lineOf, linesOf, firstLine, refusedLine, textBy, textOf, mostInput, printed, textAfter, inputAfter}
+use Rattle.sheet.specs.Record.{resultSize}
+use Rattle.sheet.specs.Sheet.{countOf, pairsOf, resultsOf, uAt, yAt, answerAt, sheetRefusal, sheetAnswerOf, sheetAfter, sheetNumberOf}
+use Rattle.sheet.proofs.Questions.{fails-none}
+use Rattle.sheet.proofs.Blocks.{pair-apart}
+use Rattle.sheet.proofs.Records.{u-kept, y-kept}
+use Rattle.sheet.proofs.Worked.{all-stored, number-of-answer, same-length, header-kept}
+use Rattle.sheet.proofs.Fields.{record-read}
+use Rattle.report.specs.Text.{outcome, printedLine, printedLines, firstLine, refusedLine, textBy, textOf, mostInput, printed, textAfter, inputAfter}
 use Rattle.report.specs.Inner.{Put, outcomeAt, lineAt, linesAt, Readable}
 use Rattle.report.proofs.Puts.{put-as, put-length, put-at-start}
 use Rattle.report.proofs.Fields.{outcome-by-fields}
 
--- the number of a record
-number-laid : (number method index lower upper : ℕ) → getD (laidOut number method index lower upper) 0 0 ≡ number
-unfolding laidOut headOf
-number-laid number method index lower upper = refl
-
-number-read : (l : List ℕ) (at : ℕ) (a : Answer) → recordAt l at ≡ recordOf a → getD l at 0 ≡ numberOf a
-number-read l at a e =
-    let first : getD (take resultSize (drop at l)) 0 0 ≡ getD l at 0 =
-    getD-take resultSize (drop at l) 0 0 (omega arith) ∙ getD-drop at l 0 0 ∙ ap (λ (i : ℕ). getD l i 0) (add-zero at) in
-    sym first ∙ ap (λ (r : List ℕ). getD r 0 0) e ∙ number-laid _ _ _ _ _
-
--- the outcome of a record that is an answer's
 module _ (s : List ℕ) (q : sheetRefusal s ≡ 0) where
+  -- the outcome of a record that is an answer's
   outcome-read : (i : ℕ) → i < countOf s
       → outcomeAt (sheetAfter s) (resultsOf s + resultSize * i) ≡ outcome (answerAt s (pairsOf s) i)
   outcome-read i h =
-      let found = record-found s q i h in
-      let place = resultsOf s + resultSize * i in
-      let a = answerAt s (pairsOf s) i in
-      rw (number-read (sheetAfter s) place a found, method-read (sheetAfter s) place a found, index-read (sheetAfter s) place a found (fits _ _))
-      (outcome-by-fields a)
-
-  -- a number that stands outside the result block
-  kept : (at : ℕ) → (at + 4 ≤ resultsOf s) ⊎ (resultsEnd s ≤ at) → numberAt (sheetAfter s) at ≡ numberAt s at
-  kept at h =
-      rw (← all-stored s q)
-      (number-kept s (recordsOf s (pairsOf s) (countOf s)) (resultsOf s) at (rw (length-records s (pairsOf s) (countOf s)) h))
+      let read = record-read s q i h in
+      rw (read .refusal, read .method, read .index) (outcome-by-fields (answerAt s (pairsOf s) i))
 
   pub pairs-kept : pairsOf (sheetAfter s) ≡ pairsOf s
-  pairs-kept = kept 4 (inl (omega (arith, accepted s q .results-after)))
+  pairs-kept = header-kept s q _ (omega arith)
 
   pub results-kept : resultsOf (sheetAfter s) ≡ resultsOf s
-  results-kept = kept 8 (inl (omega (arith, accepted s q .results-after)))
-
-  pair-kept : (i at : ℕ) → i < countOf s → pairsOf s + pairSize * i ≤ at → at + 4 ≤ pairsOf s + pairSize * i + pairSize
-      → numberAt (sheetAfter s) at ≡ numberAt s at
-  pair-kept i at h a b =
-      kept at
-      (⊎-elim (λ (l : pairsOf s + pairSize * countOf s ≤ resultsOf s). inl (omega arith))
-      (λ (l : resultsOf s + resultSize * countOf s ≤ pairsOf s). inr (omega arith)) (accepted s q .blocks .apart))
+  results-kept = header-kept s q _ (omega arith)
 
   line-read : (i : ℕ) → i < countOf s
       → lineAt (sheetAfter s) (pairsOf s) (resultsOf s) i
-      ≡ lineOf (uAt s (pairsOf s) i) (yAt s (pairsOf s) i) (outcome (answerAt s (pairsOf s) i))
+      ≡ printedLine (uAt s (pairsOf s) i) (yAt s (pairsOf s) i) (outcome (answerAt s (pairsOf s) i))
   line-read i h =
-      let u : uAt (sheetAfter s) (pairsOf s) i ≡ uAt s (pairsOf s) i = pair-kept i (pairsOf s + pairSize * i) h (omega arith) (omega arith) in
-      let y : yAt (sheetAfter s) (pairsOf s) i ≡ yAt s (pairsOf s) i = pair-kept i (pairsOf s + pairSize * i + 4) h (omega arith) (omega arith) in
+      let n = countOf s in
+      let apart = pair-apart (fails-none s q .blocks) i h n (omega arith) in
+      let u = rw (all-stored s q) at (u-kept s (pairsOf s) (resultsOf s) i n apart) in
+      let y = rw (all-stored s q) at (y-kept s (pairsOf s) (resultsOf s) i n apart) in
       rw (u, y, outcome-read i h)
 
-  lines-read : (n : ℕ) → n ≤ countOf s → linesAt (sheetAfter s) (pairsOf s) (resultsOf s) n ≡ linesOf s n
-  unfolding linesAt linesOf
+  lines-read : (n : ℕ) → n ≤ countOf s → linesAt (sheetAfter s) (pairsOf s) (resultsOf s) n ≡ printedLines s n
+  unfolding linesAt printedLines
   lines-read zero h = refl
   lines-read (suc n) h = rw (lines-read n (omega arith), line-read n (omega arith))
 
   -- the worked sheet can be read
   pub readable : Readable (sheetAfter s) (countOf s)
   readable =
-      let a = accepted s q in
+      let a = fails-none s q in
       record {
         header = rw (same-length s q) (a .header);
         few = a .few;
@@ -131,7 +99,7 @@ module _ (s : List ℕ) where
     accepted-printed t n w e =
         let a = answered-by s n e in
         let q = a .none-failed in
-        let lines : linesAt t (pairsOf t) (resultsOf t) n ≡ linesOf s n =
+        let lines : linesAt t (pairsOf t) (resultsOf t) n ≡ printedLines s n =
         rw (w, pairs-kept s q, results-kept s q) (lines-read s q n (omega (arith, a .count-is))) in
         rw lines (by-answer (Accepted n) e)
 

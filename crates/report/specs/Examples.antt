@@ -9,14 +9,14 @@ use Rattle.index.specs.declared.Mark.{Mark}
 use Rattle.index.specs.declared.Mark.the-variants.{Settled, Near}
 use Rattle.index.specs.declared.Answer.{Answer}
 use Rattle.index.specs.declared.Answer.the-variants.{Refused, A, B}
-use Rattle.report.specs.Text.{ascii, outcome, lineOf, firstLine, refusedLine}
+use Rattle.report.specs.Text.{ascii, outcome, printedLine, firstLine, refusedLine}
 
 -- an answer by procedure B; its fractions are not printed
 abbrev pub byB : ℕ → Mark → Answer
 byB index m = B (record { index = index; mark = m; lower = 0; upper = 0 })
 
 abbrev pub line : ℕ → ℕ → Answer → List ℕ
-line u y a = lineOf u y (outcome a)
+line u y a = printedLine u y (outcome a)
 
 pub record ExampleLines : Type 0 where
   pub first : firstLine 3 ≡ ascii "pairs 3\n"

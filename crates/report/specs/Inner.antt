@@ -5,12 +5,12 @@ use Prim.Native.Nat.{ℕ, zero, suc, _+_, _*_, _≤_}
 use mathlib.Core.Path.{_≡_}
 use mathlib.Core.List.{List, [], _++_}
 use lib.IntN.{ℤ}
-use lib.ListN.{length, getD}
+use lib.ListN.{length}
 use Rattle.sheet.specs.Bytes.{stored}
-use Rattle.sheet.specs.Record.{resultSize, methodAt, indexAt}
+use Rattle.sheet.specs.Record.{resultSize, refusalAt, methodAt, indexAt}
 use Rattle.sheet.specs.Sheet.{headerSize, mostPairs, pairsOf, resultsOf, uAt, yAt}
 use Rattle.sheet.specs.Inner.{BlocksWithin}
-use Rattle.report.specs.Text.{ascii, space, decimal, signed, lineOf}
+use Rattle.report.specs.Text.{ascii, decimal, signedDecimal, worded, printedLine}
 
 -- `text` was put into `before` at a place, which made `after`; `next` is the place after it, at most `width` further on
 pub record Put (width : ℕ) (before : List ℕ) (at : ℕ) (text after : List ℕ) (next : ℕ) : Type 0 where
@@ -25,6 +25,10 @@ viscosityWidth = 11
 -- the sign and 10 digits
 abbrev pub indexWidth : ℕ
 indexWidth = 11
+
+-- a word, a space and the digits of n
+abbrev pub wordedWidth : List ℕ → ℕ → ℕ
+wordedWidth word n = length word + (1 + length (decimal n))
 
 -- a method of two bytes, a space and an index; "refused" and a number of one byte are shorter
 abbrev pub outcomeWidth : ℕ
@@ -48,18 +52,18 @@ refusedLineWidth = 18
 
 -- the outcome by the fields of a record: its number, its method (0 refused, 1 A, 2 B settled, 3 B near) and its index
 abbrev pub outcomeBy : ℕ → ℕ → ℤ → List ℕ
-outcomeBy number zero index = ascii "refused" ++ (space ++ decimal number)
-outcomeBy number (suc zero) index = ascii "A" ++ (space ++ signed index)
-outcomeBy number (suc (suc zero)) index = ascii "B" ++ (space ++ signed index)
-outcomeBy number (suc (suc (suc more))) index = ascii "B~" ++ (space ++ signed index)
+outcomeBy number zero index = worded (ascii "refused") (decimal number)
+outcomeBy number (suc zero) index = worded (ascii "A") (signedDecimal index)
+outcomeBy number (suc (suc zero)) index = worded (ascii "B") (signedDecimal index)
+outcomeBy number (suc (suc (suc more))) index = worded (ascii "B~") (signedDecimal index)
 
--- the record that begins at a place
+-- the outcome of the record that begins at a place
 abbrev pub outcomeAt : List ℕ → ℕ → List ℕ
-outcomeAt sheet at = outcomeBy (getD sheet at 0) (methodAt sheet at) (indexAt sheet at)
+outcomeAt sheet at = outcomeBy (refusalAt sheet at) (methodAt sheet at) (indexAt sheet at)
 
 -- the line of pair i and of its record, of blocks that begin at `pairs` and at `results`; and the first n lines
 abbrev pub lineAt : List ℕ → ℕ → ℕ → ℕ → List ℕ
-lineAt sheet pairs results i = lineOf (uAt sheet pairs i) (yAt sheet pairs i) (outcomeAt sheet (results + resultSize * i))
+lineAt sheet pairs results i = printedLine (uAt sheet pairs i) (yAt sheet pairs i) (outcomeAt sheet (results + resultSize * i))
 
 unfoldable pub linesAt : List ℕ → ℕ → ℕ → ℕ → List ℕ
 linesAt sheet pairs results zero = []

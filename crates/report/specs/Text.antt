@@ -51,9 +51,13 @@ unfoldable pub viscosity : ℕ → List ℕ
 viscosity x = decimal (x / 1000) ++ (ascii "." ++ (digit (x / 100) ++ (digit (x / 10) ++ digit x)))
 
 -- "an index below zero with a minus sign before its digits": negsuc n is −(n + 1)
-abbrev pub signed : ℤ → List ℕ
-signed (pos n) = decimal n
-signed (negsuc n) = ascii "-" ++ decimal (n + 1)
+abbrev pub signedDecimal : ℤ → List ℕ
+signedDecimal (pos n) = decimal n
+signedDecimal (negsuc n) = ascii "-" ++ decimal (n + 1)
+
+-- a word and a number of any kind, as two fields: "fields parted by one space"
+abbrev pub worded : List ℕ → List ℕ → List ℕ
+worded word number = word ++ (space ++ number)
 
 -- "the method (A, B, or B~ for near)"
 abbrev pub procedureB : Mark → List ℕ
@@ -62,31 +66,31 @@ procedureB mark.Near = ascii "B~"
 
 -- "the method .. and index, or "refused" and the number"
 abbrev pub outcome : Answer → List ℕ
-outcome (answer.A index) = ascii "A" ++ (space ++ signed index)
-outcome (answer.B b) = procedureB (b .mark) ++ (space ++ decimal (b .index))
-outcome (answer.Refused number) = ascii "refused" ++ (space ++ decimal number)
+outcome (answer.A index) = worded (ascii "A") (signedDecimal index)
+outcome (answer.B b) = worded (procedureB (b .mark)) (decimal (b .index))
+outcome (answer.Refused number) = worded (ascii "refused") (decimal number)
 
 -- the line of a pair: "u, y (three decimals each), the method .. and index, or "refused" and the number"
-unfoldable pub lineOf : ℕ → ℕ → List ℕ → List ℕ
-lineOf u y result = viscosity u ++ (space ++ (viscosity y ++ (space ++ (result ++ lineEnd))))
+unfoldable pub printedLine : ℕ → ℕ → List ℕ → List ℕ
+printedLine u y result = viscosity u ++ (space ++ (viscosity y ++ (space ++ (result ++ lineEnd))))
 
 -- "then for each pair": the lines of the first n pairs of a sheet, each from the pair's u, its y and the answer to them
-unfoldable pub linesOf : List ℕ → ℕ → List ℕ
-linesOf sheet zero = []
-linesOf sheet (suc i) =
-    linesOf sheet i ++ lineOf (uAt sheet (pairsOf sheet) i) (yAt sheet (pairsOf sheet) i) (outcome (answerAt sheet (pairsOf sheet) i))
+unfoldable pub printedLines : List ℕ → ℕ → List ℕ
+printedLines sheet zero = []
+printedLines sheet (suc i) =
+    printedLines sheet i ++ printedLine (uAt sheet (pairsOf sheet) i) (yAt sheet (pairsOf sheet) i) (outcome (answerAt sheet (pairsOf sheet) i))
 
 -- ""pairs" and n"
 unfoldable pub firstLine : ℕ → List ℕ
-firstLine n = ascii "pairs" ++ (space ++ (decimal n ++ lineEnd))
+firstLine n = worded (ascii "pairs") (decimal n) ++ lineEnd
 
 -- "the one line "sheet refused" and its number"
 unfoldable pub refusedLine : ℕ → List ℕ
-refusedLine number = ascii "sheet refused" ++ (space ++ (decimal number ++ lineEnd))
+refusedLine number = worded (ascii "sheet refused") (decimal number) ++ lineEnd
 
 -- the text of a sheet by the answer to it, and the text of a sheet
 abbrev pub textBy : List ℕ → SheetAnswer → List ℕ
-textBy sheet (sheet-answer.Accepted n) = firstLine n ++ linesOf sheet n
+textBy sheet (sheet-answer.Accepted n) = firstLine n ++ printedLines sheet n
 textBy sheet (sheet-answer.Refused number) = refusedLine number
 
 unfoldable pub textOf : List ℕ → List ℕ

@@ -8,13 +8,14 @@ ghost use Rattle.sheet.specs.Bytes.{signedOf};
 ghost use Rattle.sheet.specs.Record.{resultSize};
 ghost use Rattle.sheet.specs.Sheet.{mostPairs, pairsOf, resultsOf};
 ghost use Rattle.sheet.specs.Inner.{PairWithin, BlocksWithin};
-ghost use Rattle.report.specs.Text.{ascii, space, lineEnd, digit, decimal, viscosity, signed, firstLine, refusedLine, printed, textAfter, inputAfter};
-ghost use Rattle.report.specs.Inner.{Put, viscosityWidth, indexWidth, outcomeWidth, lineWidth, firstLineWidth, textWidth, refusedLineWidth, outcomeBy, outcomeAt, lineAt, linesAt, Readable};
+ghost use Rattle.report.specs.Text.{ascii, lineEnd, digit, decimal, viscosity, signedDecimal, worded, firstLine, refusedLine, printed, textAfter, inputAfter};
+ghost use Rattle.report.specs.Inner.{Put, viscosityWidth, indexWidth, wordedWidth, outcomeWidth, lineWidth, firstLineWidth, textWidth, refusedLineWidth, outcomeBy, outcomeAt, lineAt, linesAt, Readable};
 use sheet::SheetAnswer;
+use sheet::layout::*;
 
-// The longest text. Its first line, "pairs 2000", is 11 bytes with its end; each of 2,000 lines is at most 39: two viscosities of at most
+// The longest text. Its first line, "pairs 2000", is 11 bytes with its end; each line of a pair is at most 39: two viscosities of at most
 // 11 bytes (4294967.295), a method of at most 2 (B~), an index of at most 11 with its sign, three spaces and the line's end.
-pub const TEXT_SIZE: usize = 78_011;
+pub const TEXT_SIZE: usize = 11 + 39 * MOST_PAIRS;
 
 // Longer input is refused.
 pub const MOST_INPUT: usize = 65_536;
@@ -29,31 +30,6 @@ const POINT: u8 = b'.';
 const MINUS: u8 = b'-';
 
 const ZERO: u32 = 48;
-
-// The least 32-bit number that stands for one below zero, in two's complement.
-const FIRST_NEGATIVE: u32 = 0x8000_0000;
-
-// Where the header, a pair and a record hold what is printed.
-const PAIRS_AT: usize = 4;
-
-const RESULTS_AT: usize = 8;
-
-const PAIR_SIZE: usize = 8;
-
-const Y_AT: usize = 4;
-
-const RESULT_SIZE: usize = 16;
-
-const METHOD_AT: usize = 1;
-
-const INDEX_AT: usize = 4;
-
-// The methods of a record; any other is B near, 3.
-const METHOD_REFUSED: u8 = 0;
-
-const METHOD_A: u8 = 1;
-
-const METHOD_B_SETTLED: u8 = 2;
 
 // One byte.
 fn put_byte(to: &mut [u8], at: usize, byte: u8) -> usize
@@ -120,37 +96,54 @@ fn put_viscosity(to: &mut [u8], at: usize, x: u32) -> usize
 // An index in two's complement.
 fn put_index(to: &mut [u8], at: usize, bits: u32) -> usize
     requires { ⌜ at + indexWidth ≤ length (now to) ⌝ }
-    ensures { λ r. ⌜ Put indexWidth (now (to .entry)) at (signed (signedOf bits)) (now (to .exit)) r ⌝ }
+    ensures { λ r. ⌜ Put indexWidth (now (to .entry)) at (signedDecimal (signedOf bits)) (now (to .exit)) r ⌝ }
 {
     if bits < FIRST_NEGATIVE {
         return put_decimal(to, at, bits);
     }
     let number = put_byte(to, at, MINUS);
-    put_decimal(to, number, 0xFFFF_FFFF - bits + 1)
+    put_decimal(to, number, LAST_NEGATIVE - bits + 1)
 }
 
 // A method's word, a space and the index.
 fn put_answered(to: &mut [u8], at: usize, word: &[u8], bits: u32) -> usize
     requires { ⌜ length (now word) ≤ 2 ⌝ }
     requires { ⌜ at + outcomeWidth ≤ length (now to) ⌝ }
-    ensures { λ r. ⌜ Put outcomeWidth (now (to .entry)) at (now (word .entry) ++ (space ++ signed (signedOf bits))) (now (to .exit)) r ⌝ }
+    ensures { λ r. ⌜ Put outcomeWidth (now (to .entry)) at (worded (now (word .entry)) (signedDecimal (signedOf bits))) (now (to .exit)) r ⌝ }
 {
     let space = put_word(to, at, word);
     let index = put_byte(to, space, SPACE);
     put_index(to, index, bits)
 }
 
+// A word, a space and the decimal digits of n.
+fn put_worded(to: &mut [u8], at: usize, word: &[u8], n: u32) -> usize
+    requires { ⌜ at + wordedWidth (now word) n ≤ length (now to) ⌝ }
+    ensures { λ r. ⌜ Put (wordedWidth (now (word .entry)) n) (now (to .entry)) at (worded (now (word .entry)) (decimal n)) (now (to .exit)) r ⌝ }
+{
+    let space = put_word(to, at, word);
+    let digits = put_byte(to, space, SPACE);
+    put_decimal(to, digits, n)
+}
+
+// The same as a line, at the start of the buffer.
+fn put_worded_line(to: &mut [u8], word: &[u8], n: u32) -> usize
+    requires { ⌜ wordedWidth (now word) n + 1 ≤ length (now to) ⌝ }
+    ensures { λ r. ⌜ Put (wordedWidth (now (word .entry)) n + 1) (now (to .entry)) 0 (worded (now (word .entry)) (decimal n) ++ lineEnd) (now (to .exit)) r ⌝ }
+{
+    let end = put_worded(to, 0, word, n);
+    put_line_end(to, end)
+}
+
 // "refused" and the number of a refused pair.
 fn put_refused(to: &mut [u8], at: usize, number: u8) -> usize
     requires { ⌜ at + outcomeWidth ≤ length (now to) ⌝ }
-    ensures { λ r. ⌜ Put outcomeWidth (now (to .entry)) at (ascii "refused" ++ (space ++ decimal number)) (now (to .exit)) r ⌝ }
+    ensures { λ r. ⌜ Put outcomeWidth (now (to .entry)) at (worded (ascii "refused") (decimal number)) (now (to .exit)) r ⌝ }
 {
-    let space = put_word(to, at, b"refused");
-    let digits = put_byte(to, space, SPACE);
-    put_decimal(to, digits, number as u32)
+    put_worded(to, at, b"refused", number as u32)
 }
 
-// The outcome of a pair, by the fields of its record.
+// The outcome of a pair, by the fields of its record. A method that is none of the other three is B near.
 fn put_outcome(to: &mut [u8], at: usize, number: u8, method: u8, bits: u32) -> usize
     requires { ⌜ at + outcomeWidth ≤ length (now to) ⌝ }
     ensures { λ r. ⌜ Put outcomeWidth (now (to .entry)) at (outcomeBy number method (signedOf bits)) (now (to .exit)) r ⌝ }
@@ -183,12 +176,10 @@ fn put_line(to: &mut [u8], at: usize, sheet: &[u8], pairs: usize, results: usize
     requires { ⌜ PairWithin (length (now sheet)) pairs results i ⌝ }
     ensures { λ r. ⌜ Put lineWidth (now (to .entry)) at (lineAt (now (sheet .entry)) pairs results i) (now (to .exit)) r ⌝ }
 {
-    let pair = pairs + PAIR_SIZE * i;
-    let u = sheet::number_at(sheet, pair);
-    let y = sheet::number_at(sheet, pair + Y_AT);
-    let first = put_viscosity(to, at, u);
+    let pair = sheet::pair_at(sheet, pairs, i);
+    let first = put_viscosity(to, at, pair.u);
     let second = put_byte(to, first, SPACE);
-    let third = put_viscosity(to, second, y);
+    let third = put_viscosity(to, second, pair.y);
     let fourth = put_byte(to, third, SPACE);
     let end = put_outcome_at(to, fourth, sheet, results + RESULT_SIZE * i);
     put_line_end(to, end)
@@ -221,10 +212,7 @@ fn put_first_line(to: &mut [u8], n: u32) -> usize
     requires { ⌜ (firstLineWidth ≤ length (now to)) × (n ≤ mostPairs) ⌝ }
     ensures { λ r. ⌜ Put firstLineWidth (now (to .entry)) 0 (firstLine n) (now (to .exit)) r ⌝ }
 {
-    let space = put_word(to, 0, b"pairs");
-    let digits = put_byte(to, space, SPACE);
-    let end = put_decimal(to, digits, n);
-    put_line_end(to, end)
+    put_worded_line(to, b"pairs", n)
 }
 
 // "sheet refused" and its number.
@@ -232,10 +220,7 @@ fn put_sheet_refused(to: &mut [u8], number: u8) -> usize
     requires { ⌜ refusedLineWidth ≤ length (now to) ⌝ }
     ensures { λ r. ⌜ Put refusedLineWidth (now (to .entry)) 0 (refusedLine number) (now (to .exit)) r ⌝ }
 {
-    let space = put_word(to, 0, b"sheet refused");
-    let digits = put_byte(to, space, SPACE);
-    let end = put_decimal(to, digits, number as u32);
-    put_line_end(to, end)
+    put_worded_line(to, b"sheet refused", number as u32)
 }
 
 // The text of a worked sheet of n pairs.

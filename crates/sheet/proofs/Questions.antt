@@ -14,6 +14,16 @@ use Rattle.index.specs.Questions.{ask}
 use Rattle.sheet.specs.Sheet.{headerSize, mostPairs, countOf, pairsOf, resultsOf, totalOf, pairsEnd, resultsEnd, standsWithin, shareNoByte, sheetRefusal}
 use Rattle.sheet.specs.Inner.{BlocksWithin}
 
+-- the last three questions, of a sheet
+abbrev pub pairsWithin : List ℕ → Bool
+pairsWithin s = standsWithin (pairsOf s) (pairsEnd s) (totalOf s)
+
+abbrev pub resultsWithin : List ℕ → Bool
+resultsWithin s = standsWithin (resultsOf s) (resultsEnd s) (totalOf s)
+
+abbrev pub blocksApart : List ℕ → Bool
+blocksApart s = shareNoByte (pairsOf s) (pairsEnd s) (resultsOf s) (resultsEnd s)
+
 -- what the code asked of its own numbers, asked of the header's
 pub within-asked : {begin begin′ end end′ total total′ : ℕ} {r v : Bool} → r ≡ standsWithin begin end total
     → begin ≡ begin′ → end ≡ end′ → total ≡ total′ → r ≡ v → standsWithin begin′ end′ total′ ≡ v
@@ -39,26 +49,26 @@ module _ (s : List ℕ) where
       no-13 h = simp (le-leb _ _ a, eq-eqb _ _ b, lt-leb _ _ h)
 
       module _ (d : countOf s ≤ mostPairs) where
-        pub no-14 : standsWithin (pairsOf s) (pairsEnd s) (totalOf s) ≡ false → 14 ≡ sheetRefusal s
+        pub no-14 : pairsWithin s ≡ false → 14 ≡ sheetRefusal s
         unfolding sheetRefusal
         no-14 h = rw (le-leb _ _ a, eq-eqb _ _ b, le-leb _ _ d, h)
 
-        module _ (e : standsWithin (pairsOf s) (pairsEnd s) (totalOf s) ≡ true) where
-          pub no-15 : standsWithin (resultsOf s) (resultsEnd s) (totalOf s) ≡ false → 15 ≡ sheetRefusal s
+        module _ (e : pairsWithin s ≡ true) where
+          pub no-15 : resultsWithin s ≡ false → 15 ≡ sheetRefusal s
           unfolding sheetRefusal
           no-15 h = rw (le-leb _ _ a, eq-eqb _ _ b, le-leb _ _ d, e, h)
 
-          module _ (f : standsWithin (resultsOf s) (resultsEnd s) (totalOf s) ≡ true) where
-            pub no-16 : shareNoByte (pairsOf s) (pairsEnd s) (resultsOf s) (resultsEnd s) ≡ false → 16 ≡ sheetRefusal s
+          module _ (f : resultsWithin s ≡ true) where
+            pub no-16 : blocksApart s ≡ false → 16 ≡ sheetRefusal s
             unfolding sheetRefusal
             no-16 h = rw (le-leb _ _ a, eq-eqb _ _ b, le-leb _ _ d, e, f, h)
 
-            pub all-yes : shareNoByte (pairsOf s) (pairsEnd s) (resultsOf s) (resultsEnd s) ≡ true → 0 ≡ sheetRefusal s
+            pub all-yes : blocksApart s ≡ true → 0 ≡ sheetRefusal s
             unfolding sheetRefusal
             all-yes h = rw (le-leb _ _ a, eq-eqb _ _ b, le-leb _ _ d, e, f, h)
 
 -- what a sheet is that fails no question
-pub record Accepted (s : List ℕ) : Type 0 where
+pub record FailsNone (s : List ℕ) : Type 0 where
   pub header : headerSize ≤ length s
   pub total : totalOf s ≡ length s
   pub few : countOf s ≤ mostPairs
@@ -82,15 +92,15 @@ neither : (a b : Bool) → (a || b) ≡ false → (a ≡ false) × (b ≡ false)
 neither true b e = let z : _≡_ {A = ℕ} 0 1 = cc in absurd (omega arith)
 neither false b e = (refl, e)
 
-pub accepted : (s : List ℕ) → sheetRefusal s ≡ 0 → Accepted s
+pub fails-none : (s : List ℕ) → sheetRefusal s ≡ 0 → FailsNone s
 unfolding sheetRefusal standsWithin shareNoByte
-accepted s e =
+fails-none s e =
     let a = yes (leb headerSize (length s)) 11 _ (omega arith) e in
     let b = yes (eqb (totalOf s) (length s)) 12 _ (omega arith) (a .1) in
     let d = yes (leb (countOf s) mostPairs) 13 _ (omega arith) (b .1) in
-    let f = yes (standsWithin (pairsOf s) (pairsEnd s) (totalOf s)) 14 _ (omega arith) (d .1) in
-    let g = yes (standsWithin (resultsOf s) (resultsEnd s) (totalOf s)) 15 _ (omega arith) (f .1) in
-    let h = yes (shareNoByte (pairsOf s) (pairsEnd s) (resultsOf s) (resultsEnd s)) 16 0 (omega arith) (g .1) in
+    let f = yes (pairsWithin s) 14 _ (omega arith) (d .1) in
+    let g = yes (resultsWithin s) 15 _ (omega arith) (f .1) in
+    let h = yes (blocksApart s) 16 0 (omega arith) (g .1) in
     let p = both _ _ (f .0) in
     let r = both _ _ (g .0) in
     let total : totalOf s ≡ length s = eqb-true _ _ (b .0) in
@@ -111,18 +121,13 @@ accepted s e =
       };
     }
 
--- the blocks of an accepted sheet, by the numbers that were read from its header
-pub blocks-read : (s : List ℕ) → Accepted s → {n pairs results : ℕ} → n ≡ countOf s → pairs ≡ pairsOf s → results ≡ resultsOf s
-    → BlocksWithin (length s) n pairs results
-blocks-read s a n p r = rw (n, p, r) (a .blocks)
-
 -- question 16 in the paper's words: where it is answered no, some byte belongs to both blocks; where yes, none
 pub record SharedByte (s : List ℕ) : Type 0 where
   pub place : ℕ
   pub in-pairs : (pairsOf s ≤ place) × (place < pairsEnd s)
   pub in-results : (resultsOf s ≤ place) × (place < resultsEnd s)
 
-pub none-shared : (s : List ℕ) → shareNoByte (pairsOf s) (pairsEnd s) (resultsOf s) (resultsEnd s) ≡ true → SharedByte s → ⊥
+pub none-shared : (s : List ℕ) → blocksApart s ≡ true → SharedByte s → ⊥
 unfolding shareNoByte
 none-shared s e b =
     let p = b .in-pairs in
@@ -130,7 +135,7 @@ none-shared s e b =
     ⊎-elim (λ (t : leb (pairsEnd s) (resultsOf s) ≡ true). let first : pairsEnd s ≤ resultsOf s = leb-true _ _ t in omega arith)
     (λ (t : leb (resultsEnd s) (pairsOf s) ≡ true). let first : resultsEnd s ≤ pairsOf s = leb-true _ _ t in omega arith) (either _ _ e)
 
-pub some-shared : (s : List ℕ) → shareNoByte (pairsOf s) (pairsEnd s) (resultsOf s) (resultsEnd s) ≡ false → SharedByte s
+pub some-shared : (s : List ℕ) → blocksApart s ≡ false → SharedByte s
 unfolding shareNoByte
 some-shared s e =
     let no = neither _ _ e in

@@ -13,11 +13,12 @@ use Rattle.index.specs.declared.Answer.the-variants.{Refused, A, B}
 use Rattle.index.specs.declared.ByB.{ByB}
 use Rattle.index.specs.Answer.{methodOfMark}
 use Rattle.index.specs.Chosen.{answerOf}
-use Rattle.sheet.specs.Bytes.{numberAt, bytesOf, twosComplement, stored}
+use Rattle.sheet.specs.Bytes.{numberSize, numberAt, bytesOf, twosComplement, stored}
 use Rattle.sheet.specs.Record.{resultSize, headOf, laidOut, recordOf}
-use Rattle.sheet.specs.Sheet.{pairSize, uAt, yAt, answerAt, recordsOf}
+use Rattle.sheet.specs.Sheet.{pairSize, yPlace, uAt, yAt, answerAt, recordsOf}
 use Rattle.sheet.specs.Inner.{BlocksWithin}
 use Rattle.sheet.proofs.Stores.{stored-append, number-kept, part-back}
+use Rattle.sheet.proofs.Blocks.{pair-apart}
 
 pub length-laid-out : (number method index lower upper : ℕ) → length (laidOut number method index lower upper) ≡ resultSize
 unfolding laidOut headOf bytesOf
@@ -60,24 +61,30 @@ pub none-stored : (s : List ℕ) (pairs results : ℕ) → s ≡ stored s result
 unfolding stored recordsOf
 none-stored s pairs results = refl
 
--- one turn: pair i stands outside the records of the pairs before it, so it is read as it was at entry
-turned : (s : List ℕ) (pairs results i : ℕ) → (pairs + pairSize * i + pairSize ≤ results) ⊎ (results + resultSize * i ≤ pairs + pairSize * i)
-    → stored (stored s results (recordsOf s pairs i)) (results + resultSize * i) (recordOf (answerAt (stored s results (recordsOf s pairs i)) pairs i))
-    ≡ stored s results (recordsOf s pairs (i + 1))
-unfolding recordsOf
-turned s pairs results i h =
-    let n = length-records s pairs i in
-    let kept : (at : ℕ) → pairs + pairSize * i ≤ at → at + 4 ≤ pairs + pairSize * i + pairSize
-    → numberAt (stored s results (recordsOf s pairs i)) at ≡ numberAt s at =
-    λ at k m. number-kept s (recordsOf s pairs i) results at
-    (⊎-elim (λ (a : pairs + pairSize * i + pairSize ≤ results). inl (omega arith))
-    (λ (b : results + resultSize * i ≤ pairs + pairSize * i). inr (omega arith)) h) in
-    rw (kept (pairs + pairSize * i) (omega arith) (omega arith), kept (pairs + pairSize * i + 4) (omega arith) (omega arith), add-one, ← n)
-    (stored-append s (recordsOf s pairs i) (recordOf (answerAt s pairs i)) results)
+-- pair i of a sheet with the first k records stored, where they share no byte with it, is the pair that was handed in
+module _ (s : List ℕ) (pairs results i k : ℕ)
+    (apart : (pairs + pairSize * i + pairSize ≤ results) ⊎ (results + resultSize * k ≤ pairs + pairSize * i)) where
+  kept : (at : ℕ) → pairs + pairSize * i ≤ at → at + numberSize ≤ pairs + pairSize * i + pairSize
+      → numberAt (stored s results (recordsOf s pairs k)) at ≡ numberAt s at
+  kept at h m =
+      let n = length-records s pairs k in
+      number-kept s (recordsOf s pairs k) results at
+      (⊎-elim (λ (l : pairs + pairSize * i + pairSize ≤ results). inl (omega arith))
+      (λ (l : results + resultSize * k ≤ pairs + pairSize * i). inr (omega arith)) apart)
 
+  pub u-kept : uAt (stored s results (recordsOf s pairs k)) pairs i ≡ uAt s pairs i
+  u-kept = kept (pairs + pairSize * i) (omega arith) (omega arith)
+
+  pub y-kept : yAt (stored s results (recordsOf s pairs k)) pairs i ≡ yAt s pairs i
+  y-kept = kept (pairs + pairSize * i + yPlace) (omega arith) (omega arith)
+
+-- one turn: pair i is read as it was at entry, and its record comes after those before it
 pub next-turn : (s t t′ : List ℕ) (size n pairs results i : ℕ) → BlocksWithin size n pairs results → i < n
     → t ≡ stored s results (recordsOf s pairs i) → t′ ≡ stored t (results + resultSize * i) (recordOf (answerAt t pairs i))
     → t′ ≡ stored s results (recordsOf s pairs (i + 1))
+unfolding recordsOf
 next-turn s t t′ size n pairs results i b h e f =
-    rw e at f ∙ turned s pairs results i
-    (⊎-elim (λ (l : pairs + pairSize * n ≤ results). inl (omega arith)) (λ (l : results + resultSize * n ≤ pairs). inr (omega arith)) (b .apart))
+    let apart = pair-apart b i h i (omega arith) in
+    rw e at f
+    ∙ rw (u-kept s pairs results i i apart, y-kept s pairs results i i apart, add-one, ← length-records s pairs i)
+    (stored-append s (recordsOf s pairs i) (recordOf (answerAt s pairs i)) results)

@@ -61,5 +61,5 @@ module _ (z : ℤ) (f : SFits w32 z) (g : Negative z) where
   pub less-back : toZ w32 (ofZ w32 (negsuc 0 -ℤ toZ w32 (ofZ w32 z))) ≡ pos (g .less)
   less-back = ap (λ (y : ℤ). toZ w32 (ofZ w32 y)) less-than ∙ toZ-pos w32 (g .less) (g .small)
 
-  pub of-negative : 4294967295 - g .less ≡ twosComplement z
+  pub of-negative : span32 - 1 - g .less ≡ twosComplement z
   of-negative = rw (g .is) (omega arith)

@@ -8,7 +8,7 @@ use native.Mathlib.Nat.{add-suc, suc-add, add-zero, zero-add}
 use native.Mathlib.Omega.{arith}
 use lib.ListN.{length, getD, take, drop, set, length-drop, drop-of-length-le, take-append-drop}
 use lib.Seq.{sets, length-sets, sets-eq, getD-set-other, take-all, length-take-le}
-use Rattle.sheet.specs.Bytes.{numberAt, stored}
+use Rattle.sheet.specs.Bytes.{numberSize, numberAt, stored}
 
 -- the code's at + k, as the steps of `sets`
 pub add-two : (n : ℕ) → n + 2 ≡ suc (suc n)
@@ -30,16 +30,9 @@ pub stored-append : (l vs ws : List ℕ) (i : ℕ) → stored (stored l i vs) (i
 unfolding stored
 stored-append l vs ws i = sym (sets-append vs ws l i)
 
--- four runs of four bytes, one behind the other
-pub stored-four : (l₀ l₁ l₂ l₃ l₄ a b d e : List ℕ) (at : ℕ)
-    → length a ≡ 4 → length b ≡ 4 → length d ≡ 4
-    → l₁ ≡ stored l₀ at a → l₂ ≡ stored l₁ (at + 4) b → l₃ ≡ stored l₂ (at + 8) d → l₄ ≡ stored l₃ (at + 12) e
-    → l₄ ≡ stored l₀ at (a ++ (b ++ (d ++ e)))
-unfolding stored
-stored-four l₀ l₁ l₂ l₃ l₄ a b d e at ha hb hd e₁ e₂ e₃ e₄ =
-    let f₁ : at + 4 + 4 ≡ at + 8 = omega arith in
-    let f₂ : at + 8 + 4 ≡ at + 12 = omega arith in
-    e₄ ∙ sym (simp (sets-append, ha, hb, hd, f₁, f₂, ← e₁, ← e₂, ← e₃))
+pub stored-then : (l vs ws : List ℕ) (at : ℕ) {m k : List ℕ} {next : ℕ} → m ≡ stored l at vs → next ≡ at + length vs → k ≡ stored m next ws
+    → k ≡ stored l at (vs ++ ws)
+stored-then l vs ws at e p f = rw (e, p) at f ∙ stored-append l vs ws at
 
 -- a run that lies within the list, in three parts
 pub stored-parts : (l vs : List ℕ) (i : ℕ) → i + length vs ≤ length l → stored l i vs ≡ take i l ++ (vs ++ drop (i + length vs) l)
@@ -66,11 +59,11 @@ unfolding stored
 byte-kept l vs i j h = getD-sets vs l i j h
 
 -- a number outside a run
-pub number-kept : (l vs : List ℕ) (i at : ℕ) → (at + 4 ≤ i) ⊎ (i + length vs ≤ at) → numberAt (stored l i vs) at ≡ numberAt l at
+pub number-kept : (l vs : List ℕ) (i at : ℕ) → (at + numberSize ≤ i) ⊎ (i + length vs ≤ at) → numberAt (stored l i vs) at ≡ numberAt l at
 unfolding numberAt
 number-kept l vs i at h =
-    let out : (j : ℕ) → j < 4 → getD (stored l i vs) (at + j) 0 ≡ getD l (at + j) 0 =
-    λ j k. byte-kept l vs i (at + j) (⊎-elim (λ (a : at + 4 ≤ i). inl (omega arith)) (λ (b : i + length vs ≤ at). inr (omega arith)) h) in
+    let out : (j : ℕ) → j < numberSize → getD (stored l i vs) (at + j) 0 ≡ getD l (at + j) 0 =
+    λ j k. byte-kept l vs i (at + j) (⊎-elim (λ (a : at + numberSize ≤ i). inl (omega arith)) (λ (b : i + length vs ≤ at). inr (omega arith)) h) in
     let at0 : at + 0 ≡ at = omega arith in
     let out0 : getD (stored l i vs) at 0 ≡ getD l at 0 = rw at0 at (out 0 (omega arith)) in
     rw (out0, out 1 (omega arith), out 2 (omega arith), out 3 (omega arith))

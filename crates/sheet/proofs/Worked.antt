@@ -1,19 +1,19 @@
 -- The sheet operation's answer and the sheet it leaves, from what its steps say.
 -- Assumes nothing.
-use Prim.Native.Nat.{ℕ, zero, suc, _≤_, _<_}
+use Prim.Native.Nat.{ℕ, zero, suc, _+_, _≤_, _<_}
 use mathlib.Core.Path.{_≡_, refl, sym, ap, _∙_}
 use mathlib.Core.Bool.{cond}
 use mathlib.Core.List.{List}
-use mathlib.Core.Logic.{_⊎_}
+use mathlib.Core.Logic.{_⊎_, inl}
 use native.Mathlib.Omega.{arith}
 use borrow.Author.Tests.{eq-eqb, ne-eqb}
 use lib.Dec.{eqb}
 use lib.ListN.{length, getD}
 use Rattle.sheet.specs.declared.SheetAnswer.the-variants.{Refused, Accepted}
-use Rattle.sheet.specs.Bytes.{stored}
-use Rattle.sheet.specs.Sheet.{countOf, pairsOf, resultsOf, resultsEnd, recordsOf, sheetRefusal, sheetAnswerOf, sheetAfter, sheetNumberOf}
-use Rattle.sheet.proofs.Stores.{stored-parts, length-stored, byte-kept}
-use Rattle.sheet.proofs.Questions.{accepted}
+use Rattle.sheet.specs.Bytes.{numberSize, numberAt, stored}
+use Rattle.sheet.specs.Sheet.{headerSize, countOf, pairsOf, resultsOf, resultsEnd, recordsOf, sheetRefusal, sheetAnswerOf, sheetAfter, sheetNumberOf}
+use Rattle.sheet.proofs.Stores.{stored-parts, length-stored, byte-kept, number-kept}
+use Rattle.sheet.proofs.Questions.{fails-none}
 use Rattle.sheet.proofs.Records.{length-records}
 
 -- the records stored from the result offset on are the result block
@@ -21,7 +21,7 @@ pub all-stored : (s : List ℕ) → sheetRefusal s ≡ 0 → stored s (resultsOf
 unfolding sheetAfter
 all-stored s q =
     let n = length-records s (pairsOf s) (countOf s) in
-    let fits : resultsEnd s ≤ length s = accepted s q .blocks .results-end in
+    let fits : resultsEnd s ≤ length s = fails-none s q .blocks .results-end in
     rw (eq-eqb _ _ q, ← n) (stored-parts s (recordsOf s (pairsOf s) (countOf s)) (resultsOf s) (omega arith))
 
 pub worked : (s t : List ℕ) (n pairs results : ℕ) → sheetRefusal s ≡ 0
@@ -45,9 +45,14 @@ pub number-of-answer : (s : List ℕ) → sheetNumberOf (sheetAnswerOf s) ≡ sh
 unfolding sheetAnswerOf
 number-of-answer s = answer-number (sheetRefusal s) (countOf s)
 
--- an accepted sheet keeps its length, and every byte outside its result block
+-- an accepted sheet keeps its length, its header's numbers, and every byte outside its result block
 pub same-length : (s : List ℕ) → sheetRefusal s ≡ 0 → length (sheetAfter s) ≡ length s
 same-length s q = ap length (sym (all-stored s q)) ∙ length-stored _ _ _
+
+pub header-kept : (s : List ℕ) → sheetRefusal s ≡ 0 → (at : ℕ) → at + numberSize ≤ headerSize → numberAt (sheetAfter s) at ≡ numberAt s at
+header-kept s q at h =
+    rw (← all-stored s q)
+    (number-kept s (recordsOf s (pairsOf s) (countOf s)) (resultsOf s) at (inl (omega (arith, fails-none s q .results-after))))
 
 pub outside-kept : (s : List ℕ) → sheetRefusal s ≡ 0 → (j : ℕ) → (j < resultsOf s) ⊎ (resultsEnd s ≤ j) → getD (sheetAfter s) j 0 ≡ getD s j 0
 outside-kept s q j h =

@@ -8,11 +8,18 @@ use lib.IntN.{ℤ, pos, negsuc}
 use lib.ListN.{getD}
 use lib.Seq.{sets}
 
--- the 32-bit number whose four bytes begin at `at`
-unfoldable pub numberAt : List ℕ → ℕ → ℕ
-numberAt bytes at = getD bytes at 0 + 256 * (getD bytes (at + 1) 0 + 256 * (getD bytes (at + 2) 0 + 256 * getD bytes (at + 3) 0))
+-- how many bytes a 32-bit number is
+abbrev pub numberSize : ℕ
+numberSize = 4
 
--- the four bytes of a 32-bit number
+-- the 32-bit number of four bytes, and the one whose bytes begin at `at`
+abbrev pub joined : ℕ → ℕ → ℕ → ℕ → ℕ
+joined b0 b1 b2 b3 = b0 + 256 * (b1 + 256 * (b2 + 256 * b3))
+
+unfoldable pub numberAt : List ℕ → ℕ → ℕ
+numberAt bytes at = joined (getD bytes at 0) (getD bytes (at + 1) 0) (getD bytes (at + 2) 0) (getD bytes (at + 3) 0)
+
+-- the bytes of a 32-bit number
 unfoldable pub bytesOf : ℕ → List ℕ
 bytesOf x = x % 256 ∷ x / 256 % 256 ∷ x / 256 / 256 % 256 ∷ x / 256 / 256 / 256 % 256 ∷ []
 

@@ -13,9 +13,8 @@ use Rattle.index.specs.declared.Mark.the-variants as mark
 use Rattle.index.specs.Questions.{refusal}
 use Rattle.reference.specs.Viscosity.{inUnits}
 use Rattle.index.specs.ProcedureB.{SettledAt, NearAt}
-use Rattle.index.specs.Answer.{methodOfMark, RightAnswer}
-use Rattle.index.specs.Chosen.{answerOf}
-use Rattle.sheet.specs.Record.{resultSize, recordOf, recordAt, methodAt, indexAt, lowerAt, upperAt}
+use Rattle.index.specs.Answer.{methodOfMark}
+use Rattle.sheet.specs.Record.{resultSize, recordAt, methodAt, indexAt, lowerAt, upperAt, RecordOfPair}
 use Rattle.sheet.specs.Sheet.{countOf, pairsOf, resultsOf, uAt, yAt, sheetRefusal}
 
 module _ (before after : List ℕ) where
@@ -73,10 +72,8 @@ module _ (before after : List ℕ) where
 
   pub record AfterTheCall : Type 0 where
     -- "The result block holds one record for each pair, in the order of the pairs, and each record is exactly the answer that its own pair
-    -- gets when asked alone,
-    pub records : (i : ℕ) → i < n → bytes i ≡ recordOf (answerOf (u i) (y i))
-    -- by document 01's questions and procedures."
-    pub right : (i : ℕ) → i < n → RightAnswer (u i) (y i) (answerOf (u i) (y i))
+    -- gets when asked alone, by document 01's questions and procedures."
+    pub records : (i : ℕ) → i < n → RecordOfPair (u i) (y i) (bytes i)
     -- "Each settled index k of an oil below H has the standard's exact value from k − 0.5 to k + 0.5, and each near one from k − 0.51 to
     -- k − 0.49, both shown by whole-number powers of the two fractions in that record."
     pub below : (i : ℕ) → i < n → Answered i → BelowH i → Shown i

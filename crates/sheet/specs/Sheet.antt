@@ -33,6 +33,9 @@ totalOf sheet = numberAt sheet 12
 abbrev pub pairSize : ℕ
 pairSize = 8
 
+abbrev pub yPlace : ℕ
+yPlace = 4
+
 -- where the two blocks end: "(offset + 8n)", "(offset + 16n)"
 abbrev pub pairsEnd : List ℕ → ℕ
 pairsEnd sheet = pairsOf sheet + pairSize * countOf sheet
@@ -74,7 +77,7 @@ abbrev pub uAt : List ℕ → ℕ → ℕ → ℕ
 uAt sheet pairs i = numberAt sheet (pairs + pairSize * i)
 
 abbrev pub yAt : List ℕ → ℕ → ℕ → ℕ
-yAt sheet pairs i = numberAt sheet (pairs + pairSize * i + 4)
+yAt sheet pairs i = numberAt sheet (pairs + pairSize * i + yPlace)
 
 -- "the answer that the pair operation gives to this u and y"
 abbrev pub answerAt : List ℕ → ℕ → ℕ → Answer

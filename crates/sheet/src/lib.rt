@@ -1,17 +1,21 @@
 // The sheet operation: any bytes are a sheet, asked six questions; an accepted one gets the record of each of its pairs.
+pub mod layout;
+
 ghost use mathlib.Core.Path.{_≡_};
+ghost use mathlib.Core.List.{[], _∷_};
 ghost use Prim.Native.Nat.{_+_, _*_, _≤_, _<_};
 ghost use lib.ListN.{length};
 ghost use Rattle.index.specs.Answer.{methodOfMark};
 ghost use Rattle.index.specs.Lent.{Lent};
-ghost use Rattle.sheet.specs.Bytes.{numberAt, bytesOf, twosComplement, stored};
-ghost use Rattle.sheet.specs.Record.{resultSize, headOf, laidOut, recordOf};
-ghost use Rattle.sheet.specs.Sheet.{standsWithin, shareNoByte, sheetRefusal, answerAt, recordsOf, sheetAnswerOf, sheetAfter};
+ghost use Rattle.sheet.specs.Bytes.{numberSize, joined, numberAt, bytesOf, twosComplement, stored};
+ghost use Rattle.sheet.specs.Record.{resultSize, laidOut, recordOf};
+ghost use Rattle.sheet.specs.Sheet.{standsWithin, shareNoByte, sheetRefusal, pairSize, uAt, yAt, answerAt, recordsOf, sheetAnswerOf, sheetAfter};
 ghost use Rattle.sheet.specs.Demand3.{Demand3};
 ghost use Rattle.sheet.specs.Inner.{PairWithin, BlocksWithin};
 use index::Answer;
 use index::Mark;
 use index::threshold_table::THRESHOLDS;
+use layout::*;
 use reference::table1::TABLE1;
 
 // The answer to a sheet: refused by the question of that number, or accepted with its count of pairs.
@@ -20,64 +24,39 @@ pub enum SheetAnswer {
     Accepted(u32),
 }
 
-// The header, and where its four numbers stand in it.
-const HEADER_SIZE: usize = 16;
-
-const COUNT_AT: usize = 0;
-
-const PAIRS_AT: usize = 4;
-
-const RESULTS_AT: usize = 8;
-
-const TOTAL_AT: usize = 12;
-
-// A pair is u, then y.
-const PAIR_SIZE: usize = 8;
-
-const Y_AT: usize = 4;
-
-// A result, and where its three numbers stand in it.
-const RESULT_SIZE: usize = 16;
-
-const INDEX_AT: usize = 4;
-
-const LOWER_AT: usize = 8;
-
-const UPPER_AT: usize = 12;
-
-// The number of an answered pair, and the methods.
-const ANSWERED: u8 = 0;
-
-const METHOD_REFUSED: u8 = 0;
-
-const METHOD_A: u8 = 1;
-
-const METHOD_B_SETTLED: u8 = 2;
-
-const METHOD_B_NEAR: u8 = 3;
-
-const MOST_PAIRS: usize = 2_000;
+// A pair, in thousandths of a mm²/s: the viscosity at 40 °C and the one at 100 °C.
+pub struct Pair {
+    pub u: u32,
+    pub y: u32,
+}
 
 // The number of a sheet that fails no question.
 const NONE_FAILED: u8 = 0;
 
-// A byte as a wider number.
-fn wide(x: u8) -> u32
-    ensures { λ r. ⌜ (r ≡ x) × (r < 256) ⌝ }
+// The 32-bit number of four bytes, least significant first.
+fn joined(b0: u8, b1: u8, b2: u8, b3: u8) -> u32
+    ensures { λ r. ⌜ r ≡ joined b0 b1 b2 b3 ⌝ }
 {
-    x as u32
+    b0 as u32 + 256 * (b1 as u32 + 256 * (b2 as u32 + 256 * (b3 as u32)))
 }
 
-// The 32-bit number at `at`, least significant byte first. An inner function, for callers that know its four bytes to be there.
+// The 32-bit number at `at`. An inner function, for callers that know its four bytes to be there.
 pub fn number_at(bytes: &[u8], at: usize) -> u32
-    requires { ⌜ at + 4 ≤ length (now bytes) ⌝ }
+    requires { ⌜ at + numberSize ≤ length (now bytes) ⌝ }
     ensures { λ r. ⌜ r ≡ numberAt (now (bytes .entry)) at ⌝ }
 {
-    let b0 = wide(bytes[at]);
-    let b1 = wide(bytes[at + 1]);
-    let b2 = wide(bytes[at + 2]);
-    let b3 = wide(bytes[at + 3]);
-    b0 + 256 * (b1 + 256 * (b2 + 256 * b3))
+    joined(bytes[at], bytes[at + 1], bytes[at + 2], bytes[at + 3])
+}
+
+// Pair i of those that begin at `pairs`. An inner function, for callers that know its bytes to be there.
+pub fn pair_at(sheet: &[u8], pairs: usize, i: usize) -> Pair
+    requires { ⌜ pairs + pairSize * i + pairSize ≤ length (now sheet) ⌝ }
+    ensures { λ r. ⌜ (r .u ≡ uAt (now (sheet .entry)) pairs i) × (r .y ≡ yAt (now (sheet .entry)) pairs i) ⌝ }
+{
+    let at = pairs + PAIR_SIZE * i;
+    let u = number_at(sheet, at);
+    let y = number_at(sheet, at + Y_AT);
+    Pair { u, y }
 }
 
 // A number with sign in two's complement.
@@ -86,32 +65,33 @@ fn twos_complement(x: i32) -> u32
 {
     if x < 0 {
         let less = (-1 - x) as u32;
-        0xFFFF_FFFF - less
+        LAST_NEGATIVE - less
     } else {
         x as u32
     }
 }
 
-// Stores x at `at`, least significant byte first.
-fn store_number(to: &mut [u8], at: usize, x: u32)
+// Stores four bytes from `at` on.
+fn store_four(to: &mut [u8], at: usize, b0: u8, b1: u8, b2: u8, b3: u8)
     requires { ⌜ at + 4 ≤ length (now to) ⌝ }
-    ensures { λ _. ⌜ now (to .exit) ≡ stored (now (to .entry)) at (bytesOf x) ⌝ }
+    ensures { λ _. ⌜ now (to .exit) ≡ stored (now (to .entry)) at (b0 ∷ b1 ∷ b2 ∷ b3 ∷ []) ⌝ }
 {
-    to[at] = (x % 256) as u8;
-    to[at + 1] = (x / 256 % 256) as u8;
-    to[at + 2] = (x / 256 / 256 % 256) as u8;
-    to[at + 3] = (x / 256 / 256 / 256 % 256) as u8;
+    to[at] = b0;
+    to[at + 1] = b1;
+    to[at + 2] = b2;
+    to[at + 3] = b3;
 }
 
-// Stores the first four bytes of a record.
-fn store_head(to: &mut [u8], at: usize, number: u8, method: u8)
-    requires { ⌜ at + 4 ≤ length (now to) ⌝ }
-    ensures { λ _. ⌜ now (to .exit) ≡ stored (now (to .entry)) at (headOf number method) ⌝ }
+// Stores x at `at`, least significant byte first.
+fn store_number(to: &mut [u8], at: usize, x: u32)
+    requires { ⌜ at + numberSize ≤ length (now to) ⌝ }
+    ensures { λ _. ⌜ now (to .exit) ≡ stored (now (to .entry)) at (bytesOf x) ⌝ }
 {
-    to[at] = number;
-    to[at + 1] = method;
-    to[at + 2] = 0;
-    to[at + 3] = 0;
+    let b0 = (x % 256) as u8;
+    let b1 = (x / 256 % 256) as u8;
+    let b2 = (x / 256 / 256 % 256) as u8;
+    let b3 = (x / 256 / 256 / 256 % 256) as u8;
+    store_four(to, at, b0, b1, b2, b3);
 }
 
 // Stores the fields of a record, which begins at `at`.
@@ -127,7 +107,7 @@ fn store_fields(
     requires { ⌜ at + resultSize ≤ length (now to) ⌝ }
     ensures { λ _. ⌜ now (to .exit) ≡ stored (now (to .entry)) at (laidOut number method index lower upper) ⌝ }
 {
-    store_head(to, at, number, method);
+    store_four(to, at, number, method, 0, 0);
     store_number(to, at + INDEX_AT, index);
     store_number(to, at + LOWER_AT, lower);
     store_number(to, at + UPPER_AT, upper);
@@ -250,10 +230,8 @@ fn work_pair(
     requires { ⌜ PairWithin (length (now sheet)) pairs results i ⌝ }
     ensures { λ _. ⌜ now (sheet .exit) ≡ stored (now (sheet .entry)) (results + resultSize * i) (recordOf (answerAt (now (sheet .entry)) pairs i)) ⌝ }
 {
-    let pair = pairs + PAIR_SIZE * i;
-    let u = number_at(sheet, pair);
-    let y = number_at(sheet, pair + Y_AT);
-    let answer = index::answer_lent(rows, first, second, thresholds, u, y);
+    let pair = pair_at(sheet, pairs, i);
+    let answer = index::answer_lent(rows, first, second, thresholds, pair.u, pair.y);
     write_result(&mut sheet[results..], i, answer);
 }
 

@@ -1,1 +1,3 @@
+-- The definition that the contract of the pair call cites.
+-- Assumes nothing.
 pub mod PairCall

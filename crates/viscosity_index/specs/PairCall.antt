@@ -2,6 +2,7 @@
 -- just 16 bytes (no: 5, record untouched), then fills it as one result of a sheet and answers the pair's number, 0 if answered."
 -- Assumes nothing.
 use Prim.Native.Nat.{ℕ}
+use mathlib.Core.Path.{_≡_}
 use mathlib.Core.Bool.{Bool, cond}
 use mathlib.Core.List.{List}
 use lib.Dec.{eqb}
@@ -9,7 +10,7 @@ use lib.ListN.{length}
 use Rattle.index.specs.Questions.{ask}
 use Rattle.index.specs.Answer.{numberOf}
 use Rattle.index.specs.Chosen.{answerOf}
-use Rattle.sheet.specs.Record.{resultSize, recordOf}
+use Rattle.sheet.specs.Record.{resultSize, recordOf, RecordOfPair}
 
 -- the question about the record
 abbrev pub just16 : List ℕ → Bool
@@ -22,3 +23,13 @@ pairNumber lent u y = ask (just16 lent) 5 (numberOf (answerOf u y))
 -- the record afterwards
 unfoldable pub recordAfter : List ℕ → ℕ → ℕ → List ℕ
 recordAfter lent u y = cond (just16 lent) (recordOf (answerOf u y)) lent
+
+-- what the call answers and leaves in a record of 16 bytes: the number and the record of a right answer to the pair
+pub record Filled (u y number : ℕ) (after : List ℕ) : Type 0 where
+  pub result : RecordOfPair u y after
+  pub number-is : number ≡ numberOf (result .answer)
+
+-- what the call answers and leaves, whatever is lent
+pub record PairCall (u y : ℕ) (lent : List ℕ) (number : ℕ) (after : List ℕ) : Type 0 where
+  pub just-16 : length lent ≡ resultSize → Filled u y number after
+  pub not-16 : (length lent ≡ resultSize → ⊥) → (number ≡ 5) × (after ≡ lent)

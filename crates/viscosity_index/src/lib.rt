@@ -1,15 +1,12 @@
 // What C calls: the pair and the sheet operation on numbers and bytes. The header is include/viscosity_index.h.
 ghost use mathlib.Core.Path.{_≡_};
-ghost use Rattle.index.specs.Answer.{numberOf, RightAnswer};
-ghost use Rattle.index.specs.Chosen.{answerOf};
+ghost use Rattle.index.specs.Answer.{numberOf};
 ghost use Rattle.sheet.specs.Sheet.{sheetRefusal, sheetAfter, sheetNumberOf};
 ghost use Rattle.sheet.specs.Demand3.{Demand3};
-ghost use Rattle.viscosity_index.specs.PairCall.{pairNumber, recordAfter};
+ghost use Rattle.viscosity_index.specs.PairCall.{pairNumber, recordAfter, PairCall};
 use index::Answer;
 use sheet::SheetAnswer;
-
-// A record is one result of a sheet.
-const RECORD_SIZE: usize = 16;
+use sheet::layout::RESULT_SIZE;
 
 // The number of an answer, 0 if the pair is answered.
 fn number_of(answer: Answer) -> u32
@@ -37,9 +34,9 @@ fn number_of_sheet(answer: SheetAnswer) -> u32
 pub extern "C" fn vi_pair(u: u32, y: u32, record: &mut [u8]) -> u32
     ensures number { λ r. ⌜ r ≡ pairNumber (now («record» .entry)) u y ⌝ }
     ensures bytes { λ _. ⌜ now («record» .exit) ≡ recordAfter (now («record» .entry)) u y ⌝ }
-    ensures right { λ _. ⌜ RightAnswer u y (answerOf u y) ⌝ }
+    ensures right { λ r. ⌜ PairCall u y (now («record» .entry)) r (now («record» .exit)) ⌝ }
 {
-    if record.len() != RECORD_SIZE {
+    if record.len() != RESULT_SIZE {
         return 5;
     }
     let answer = index::answer_pair(u, y);

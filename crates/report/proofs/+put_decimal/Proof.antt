@@ -26,54 +26,33 @@ abbrev put-decimal-below : ℕ → In 1 put-decimal-kinds.ps
 put-decimal-below t =
     and 1 put-decimal-kinds.ps (falls 1 put-decimal-kinds.ps _<_ μ-put-decimal t) put-decimal.Pre
 
-put-decimal-put-digit-requires : (t : ℕ) → put-decimal-lts.Need-put-digit-requires (
-  put-digit-reads.Asked,
-  put-digit-reads.Learnt,
-  put-decimal-below t,
-  put-decimal.Post,
-) (put-decimal-at t) put-decimal.Post
+-- what the two functions that it calls ask and promise
+abbrev claims : ℕ → put-decimal-lts.Claims
+claims t = (put-digit-reads.Asked, put-digit-reads.Learnt, put-decimal-below t, put-decimal.Post)
+
+put-decimal-put-digit-requires : (t : ℕ) → put-decimal-lts.Need-put-digit-requires (claims t) (put-decimal-at t) put-decimal.Post
 put-decimal-put-digit-requires t c κs =
     let start = c .before .before .before in
     omega (arith, start .pre .1, length-one (start .args .n) (c .before .if1 .taken))
 
-put-decimal-same-length : (t : ℕ) → put-decimal-lts.Need-same-length (
-  put-digit-reads.Asked,
-  put-digit-reads.Learnt,
-  put-decimal-below t,
-  put-decimal.Post,
-) (put-decimal-at t) put-decimal.Post
+put-decimal-same-length : (t : ℕ) → put-decimal-lts.Need-same-length (claims t) (put-decimal-at t) put-decimal.Post
 put-decimal-same-length t c = search needs
 
-put-decimal-returns : (t : ℕ) → put-decimal-lts.Need-returns (
-  put-digit-reads.Asked,
-  put-digit-reads.Learnt,
-  put-decimal-below t,
-  put-decimal.Post,
-) (put-decimal-at t) put-decimal.Post
+put-decimal-returns : (t : ℕ) → put-decimal-lts.Need-returns (claims t) (put-decimal-at t) put-decimal.Post
 put-decimal-returns t c =
     let start = c .before .before .before .before .before .before in
     let small = c .before .before .before .before .if1 .taken in
     put-as (sym (one-digit (start .args .n) small))
     (put-within (c .before .before .put-digit .ensures) (omega (arith, length-one (start .args .n) small)))
 
-put-decimal-put-decimal-requires : (t : ℕ) → put-decimal-lts.Need-put-decimal-requires (
-  put-digit-reads.Asked,
-  put-digit-reads.Learnt,
-  put-decimal-below t,
-  put-decimal.Post,
-) (put-decimal-at t) put-decimal.Post
+put-decimal-put-decimal-requires : (t : ℕ) → put-decimal-lts.Need-put-decimal-requires (claims t) (put-decimal-at t) put-decimal.Post
 put-decimal-put-decimal-requires t c κs =
     let start = c .before .before .before in
     let more = length-more (start .args .n) (c .before .if1 .left) in
     let is : start .args .n ≡ t = start .pre .0 in
     (omega (arith, c .before .if1 .left), omega (arith, start .pre .1))
 
-put-decimal-put-digit-requires-2 : (t : ℕ) → put-decimal-lts.Need-put-digit-requires-2 (
-  put-digit-reads.Asked,
-  put-digit-reads.Learnt,
-  put-decimal-below t,
-  put-decimal.Post,
-) (put-decimal-at t) put-decimal.Post
+put-decimal-put-digit-requires-2 : (t : ℕ) → put-decimal-lts.Need-put-digit-requires-2 (claims t) (put-decimal-at t) put-decimal.Post
 put-decimal-put-digit-requires-2 t c κs =
     let start = c .before .before .before .before .before .before .before in
     let more = length-more (start .args .n) (c .before .before .before .before .before .if1 .left) in
@@ -81,20 +60,10 @@ put-decimal-put-digit-requires-2 t c κs =
     let same = put-length front in
     omega (arith, start .pre .1, front .past)
 
-put-decimal-same-length-2 : (t : ℕ) → put-decimal-lts.Need-same-length-2 (
-  put-digit-reads.Asked,
-  put-digit-reads.Learnt,
-  put-decimal-below t,
-  put-decimal.Post,
-) (put-decimal-at t) put-decimal.Post
+put-decimal-same-length-2 : (t : ℕ) → put-decimal-lts.Need-same-length-2 (claims t) (put-decimal-at t) put-decimal.Post
 put-decimal-same-length-2 t c = search needs
 
-put-decimal-returns-2 : (t : ℕ) → put-decimal-lts.Need-returns-2 (
-  put-digit-reads.Asked,
-  put-digit-reads.Learnt,
-  put-decimal-below t,
-  put-decimal.Post,
-) (put-decimal-at t) put-decimal.Post
+put-decimal-returns-2 : (t : ℕ) → put-decimal-lts.Need-returns-2 (claims t) (put-decimal-at t) put-decimal.Post
 put-decimal-returns-2 t c =
     let start = c .before .before .before .before .before .before .before .before .before .before in
     let large = c .before .before .before .before .before .before .before .before .if1 .left in
@@ -103,12 +72,7 @@ put-decimal-returns-2 t c =
     (omega (arith, length-more (start .args .n) large)))
 
 pub +put-decimal-spec : {M : Type 1} → statement M
-+put-decimal-spec = close μ-put-decimal λ t. put-decimal-lts.spec (
-  put-digit-reads.Asked,
-  put-digit-reads.Learnt,
-  put-decimal-below t,
-  put-decimal.Post,
-)
++put-decimal-spec = close μ-put-decimal λ t. put-decimal-lts.spec (claims t)
     (put-decimal-at t)
     put-decimal.Post
     (put-decimal-put-digit-requires t)

@@ -1,31 +1,23 @@
--- The word, a space, the count, the line's end.
+-- The line of "pairs" and a count of at most four digits.
 -- Assumes nothing.
+use Prim.Native.Nat.{_≤_}
 use native.Mathlib.Omega.{arith}
 use borrow.Author.Needs.{needs}
-use Rattle.report.specs.Text.{firstLine}
-use Rattle.report.proofs.Puts.{put-then, put-within}
+use lib.ListN.{length}
+use Rattle.report.specs.Text.{decimal, firstLine}
+use Rattle.report.proofs.Puts.{put-within}
 use Rattle.report.proofs.Digits.{digits-of-count}
 use Rattle.report.proofs.put_first_line.Statement.{statement}
 use Rattle.report.proofs.put_first_line.Tie as tie
 
-slice-aggregate-put-word : tie.Need-slice-aggregate-put-word
-slice-aggregate-put-word c = search needs
+few : (c : tie.Start) → length (decimal (c .args .n)) ≤ 4
+few c = digits-of-count (c .args .n) (c .pre .1)
 
-put-word-requires : tie.Need-put-word-requires
-put-word-requires c κs = search needs
+slice-aggregate-put-worded-line : tie.Need-slice-aggregate-put-worded-line
+slice-aggregate-put-worded-line c = search needs
 
-put-byte-requires : tie.Need-put-byte-requires
-put-byte-requires c κs = search needs
-
-put-decimal-requires : tie.Need-put-decimal-requires
-put-decimal-requires c κs =
-    let start = c .before .before .before .before .before .before .before .before .before .before .before in
-    omega (arith, digits-of-count (start .args .n) (start .pre .1))
-
-put-line-end-requires : tie.Need-put-line-end-requires
-put-line-end-requires c κs =
-    let start = c .before .before .before .before .before .before .before .before .before .before .before .before .before .before .before in
-    omega (arith, digits-of-count (start .args .n) (start .pre .1))
+put-worded-line-requires : tie.Need-put-worded-line-requires
+put-worded-line-requires c κs = omega (arith, few (c .before .before .before))
 
 same-length : tie.Need-same-length
 same-length c = search needs
@@ -33,23 +25,9 @@ same-length c = search needs
 returns : tie.Need-returns
 unfolding firstLine
 returns c =
-    let end = c .before .before in
-    let digits = end .before .before .before .before in
-    let space = digits .before .before .before .before in
-    let word = space .before .before .before .before in
-    let start = word .before .before .before .before in
-    put-within
-    (put-then (word .put-word .ensures) (put-then (space .put-byte .ensures) (put-then (digits .put-decimal .ensures) (end .put-line-end .ensures))))
-    (omega (arith, digits-of-count (start .args .n) (start .pre .1)))
+    let worded = c .before .before in
+    put-within (worded .put-worded-line .ensures) (omega (arith, few (worded .before .before .before .before)))
 
 pub put-first-line-spec : {M : Type 1} → statement M
 put-first-line-spec =
-    tie.close
-    (tie.spec
-    slice-aggregate-put-word
-    put-word-requires
-    put-byte-requires
-    put-decimal-requires
-    put-line-end-requires
-    same-length
-    returns)
+    tie.close (tie.spec slice-aggregate-put-worded-line put-worded-line-requires same-length returns)

@@ -1,18 +1,26 @@
 -- By the half of the 32-bit numbers that the bits are in.
 -- Assumes nothing.
-use Prim.Native.Nat.{_+_, _-_}
+use Prim.Native.Nat.{_+_, _-_, _≤_}
 use native.Mathlib.Omega.{arith}
 use borrow.Author.Needs.{needs}
+use lib.ListN.{length}
+use Rattle.sheet.specs.Bytes.{span32}
+use Rattle.report.specs.Text.{decimal}
 use Rattle.report.proofs.Puts.{put-then, put-within, put-as}
 use Rattle.report.proofs.Digits.{digits-of-32-bits}
 use Rattle.report.proofs.Fields.{not-below-zero, below-zero}
 use Rattle.report.proofs.put_index.Statement.{statement}
 use Rattle.report.proofs.put_index.Tie as tie
 
+-- ten digits at most, in the lower half and in the upper
+ten : (c : tie.Then1) → length (decimal (c .before .before .args .bits)) ≤ 10
+ten c = digits-of-32-bits _ (c .before .before .fits .bits .fits)
+
+ten-below : (c : tie.Else1) → length (decimal (span32 - 1 - c .before .before .args .bits + 1)) ≤ 10
+ten-below c = digits-of-32-bits _ (omega (arith, c .if1 .left))
+
 put-decimal-requires : tie.Need-put-decimal-requires
-put-decimal-requires c κs =
-    let start = c .before .before .before in
-    omega (arith, digits-of-32-bits (start .args .bits) (start .fits .bits .fits))
+put-decimal-requires c κs = omega (arith, ten (c .before))
 
 same-length : tie.Need-same-length
 same-length c = search needs
@@ -20,9 +28,7 @@ same-length c = search needs
 returns : tie.Need-returns
 returns c =
     let at-if = c .before .before .before .before in
-    let start = at-if .before .before in
-    put-as (not-below-zero _ (at-if .if1 .taken))
-    (put-within (c .before .before .put-decimal .ensures) (omega (arith, digits-of-32-bits (start .args .bits) (start .fits .bits .fits))))
+    put-as (not-below-zero _ (at-if .if1 .taken)) (put-within (c .before .before .put-decimal .ensures) (omega (arith, ten at-if)))
 
 put-byte-requires : tie.Need-put-byte-requires
 put-byte-requires c κs = search needs
@@ -36,8 +42,7 @@ add-put-decimal c = search needs
 put-decimal-requires-2 : tie.Need-put-decimal-requires-2
 put-decimal-requires-2 c κs =
     let at-if = c .before .before .before .before .before in
-    let start = at-if .before .before in
-    omega (arith, digits-of-32-bits (4294967295 - start .args .bits + 1) (omega (arith, at-if .if1 .left)))
+    omega (arith, ten-below at-if)
 
 same-length-2 : tie.Need-same-length-2
 same-length-2 c = search needs
@@ -49,8 +54,7 @@ returns-2 c =
     let at-if = sign .before .before in
     let start = at-if .before .before in
     put-as (below-zero _ (at-if .if1 .left) (start .fits .bits .fits))
-    (put-within (put-then (sign .put-byte .ensures) (digits .put-decimal2 .ensures))
-    (omega (arith, digits-of-32-bits (4294967295 - start .args .bits + 1) (omega (arith, at-if .if1 .left)))))
+    (put-within (put-then (sign .put-byte .ensures) (digits .put-decimal2 .ensures)) (omega (arith, ten-below at-if)))
 
 pub put-index-spec : {M : Type 1} → statement M
 put-index-spec =

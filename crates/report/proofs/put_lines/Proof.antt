@@ -4,9 +4,10 @@ use Prim.Native.Nat.{_≤_, _-_, _*_}
 use mathlib.Core.Path.{_≡_}
 use native.Mathlib.Omega.{arith}
 use borrow.Author.Needs.{needs}
+use Rattle.sheet.proofs.Blocks.{pair-within}
 use Rattle.report.specs.Inner.{Put, lineWidth, linesAt}
 use Rattle.report.proofs.Puts.{put-length}
-use Rattle.report.proofs.Lines.{no-lines, one-more, pair-within}
+use Rattle.report.proofs.Lines.{no-lines, one-more}
 use Rattle.report.proofs.put_lines.Statement.{statement}
 use Rattle.report.proofs.put_lines.Tie as tie
 
@@ -25,7 +26,7 @@ put-line-requires c κs =
     let head = turn .before in
     let start = head .before .before .before in
     let same = put-length (head .loop .inv .1) in
-    (omega (arith, start .pre .0), pair-within _ (start .pre .1) (omega arith))
+    (omega (arith, start .pre .0), pair-within (start .pre .1) _ (omega arith))
 
 add-i : tie.Need-add-i Inv-loop μ-loop
 add-i c = search needs

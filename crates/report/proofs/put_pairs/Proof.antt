@@ -1,9 +1,10 @@
 -- The first line, and then the lines of the blocks that the header names.
 -- Assumes nothing.
+use mathlib.Core.Path.{refl}
 use native.Mathlib.Omega.{arith}
 use borrow.Author.Needs.{needs}
+use Rattle.sheet.proofs.Blocks.{blocks-read}
 use Rattle.report.proofs.Puts.{put-then, put-within}
-use Rattle.report.proofs.Lines.{blocks-at}
 use Rattle.report.proofs.put_pairs.Statement.{statement}
 use Rattle.report.proofs.put_pairs.Tie as tie
 
@@ -30,7 +31,7 @@ put-lines-requires c κs =
     let start = pairs .before .before .before in
     let put = first-line .put-first-line .ensures in (
       omega (arith, put .past, put .short, start .pre .0, start .pre .1 .few),
-      blocks-at _ _ _ (pairs .number-at .ensures) (results .number-at2 .ensures) (start .pre .1 .blocks),
+      blocks-read refl (pairs .number-at .ensures) (results .number-at2 .ensures) (start .pre .1 .blocks),
     )
 
 same-length : tie.Need-same-length

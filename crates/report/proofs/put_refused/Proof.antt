@@ -1,45 +1,32 @@
--- The word, a space, the number.
+-- The word "refused" and a number of at most three digits.
 -- Assumes nothing.
+use Prim.Native.Nat.{_≤_}
 use native.Mathlib.Omega.{arith}
 use borrow.Author.Needs.{needs}
-use Rattle.report.proofs.Puts.{put-then, put-within}
+use lib.ListN.{length}
+use Rattle.report.specs.Text.{decimal}
+use Rattle.report.proofs.Puts.{put-within}
 use Rattle.report.proofs.Digits.{digits-of-byte}
 use Rattle.report.proofs.put_refused.Statement.{statement}
 use Rattle.report.proofs.put_refused.Tie as tie
 
-slice-aggregate-put-word : tie.Need-slice-aggregate-put-word
-slice-aggregate-put-word c = search needs
+few : (c : tie.Start) → length (decimal (c .args .number)) ≤ 3
+few c = digits-of-byte (c .args .number) (c .fits .number .fits)
 
-put-word-requires : tie.Need-put-word-requires
-put-word-requires c κs = search needs
+slice-aggregate-put-worded : tie.Need-slice-aggregate-put-worded
+slice-aggregate-put-worded c = search needs
 
-put-byte-requires : tie.Need-put-byte-requires
-put-byte-requires c κs = search needs
-
-put-decimal-requires : tie.Need-put-decimal-requires
-put-decimal-requires c κs =
-    let start = c .before .before .before .before .before .before .before .before .before .before .before in
-    omega (arith, digits-of-byte (start .args .number) (start .fits .number .fits))
+put-worded-requires : tie.Need-put-worded-requires
+put-worded-requires c κs = omega (arith, few (c .before .before .before))
 
 same-length : tie.Need-same-length
 same-length c = search needs
 
 returns : tie.Need-returns
 returns c =
-    let digits = c .before .before in
-    let space = digits .before .before .before .before in
-    let word = space .before .before .before .before in
-    let start = word .before .before .before .before in
-    put-within (put-then (word .put-word .ensures) (put-then (space .put-byte .ensures) (digits .put-decimal .ensures)))
-    (omega (arith, digits-of-byte (start .args .number) (start .fits .number .fits)))
+    let worded = c .before .before in
+    put-within (worded .put-worded .ensures) (omega (arith, few (worded .before .before .before .before)))
 
 pub put-refused-spec : {M : Type 1} → statement M
 put-refused-spec =
-    tie.close
-    (tie.spec
-    slice-aggregate-put-word
-    put-word-requires
-    put-byte-requires
-    put-decimal-requires
-    same-length
-    returns)
+    tie.close (tie.spec slice-aggregate-put-worded put-worded-requires same-length returns)

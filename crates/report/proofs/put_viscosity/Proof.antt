@@ -1,39 +1,46 @@
--- The digits before the point, the point, and three digits.
+-- The digits before the point, at most seven, then the point and three digits.
 -- Assumes nothing.
+use Prim.Native.Nat.{_/_, _≤_}
 use native.Mathlib.Omega.{arith}
 use borrow.Author.Needs.{needs}
-use Rattle.report.specs.Text.{viscosity}
+use lib.ListN.{length}
+use Rattle.report.specs.Text.{decimal, viscosity}
 use Rattle.report.proofs.Puts.{put-then, put-within}
 use Rattle.report.proofs.Digits.{digits-of-whole}
 use Rattle.report.proofs.put_viscosity.Statement.{statement}
 use Rattle.report.proofs.put_viscosity.Tie as tie
 
+seven : (c : tie.Start) → length (decimal (c .args .x / 1000)) ≤ 7
+seven c = digits-of-whole (c .args .x) (c .fits .x .fits)
+
 put-decimal-requires : tie.Need-put-decimal-requires
-put-decimal-requires c κs =
-    let start = c .before .before in
-    omega (arith, digits-of-whole (start .args .x) (start .fits .x .fits))
+put-decimal-requires c κs = omega (arith, seven (c .before .before))
 
 put-byte-requires : tie.Need-put-byte-requires
 put-byte-requires c κs =
-    let start = c .before .before .before .before .before .before in
-    omega (arith, digits-of-whole (start .args .x) (start .fits .x .fits))
+    let whole = c .before .before .before in
+    omega (arith, seven (whole .before .before .before))
 
 put-digit-requires : tie.Need-put-digit-requires
 put-digit-requires c κs =
-    let start = c .before .before .before .before .before .before .before .before .before .before in
-    omega (arith, digits-of-whole (start .args .x) (start .fits .x .fits))
+    let point = c .before .before .before in
+    let whole = point .before .before .before .before in
+    omega (arith, seven (whole .before .before .before))
 
 put-digit-requires-2 : tie.Need-put-digit-requires-2
 put-digit-requires-2 c κs =
-    let start = c .before .before .before .before .before .before .before .before .before .before .before .before .before .before in
-    omega (arith, digits-of-whole (start .args .x) (start .fits .x .fits))
+    let tenths = c .before .before .before in
+    let point = tenths .before .before .before .before in
+    let whole = point .before .before .before .before in
+    omega (arith, seven (whole .before .before .before))
 
 put-digit-requires-3 : tie.Need-put-digit-requires-3
 put-digit-requires-3 c κs =
     let hundredths = c .before .before .before in
-    let point = hundredths .before .before .before .before .before .before .before .before in
-    let start = point .before .before .before .before .before .before .before in
-    omega (arith, digits-of-whole (start .args .x) (start .fits .x .fits))
+    let tenths = hundredths .before .before .before .before in
+    let point = tenths .before .before .before .before in
+    let whole = point .before .before .before .before in
+    omega (arith, seven (whole .before .before .before))
 
 same-length : tie.Need-same-length
 same-length c = search needs
@@ -46,12 +53,11 @@ returns c =
     let tenths = hundredths .before .before .before .before in
     let point = tenths .before .before .before .before in
     let whole = point .before .before .before .before in
-    let start = whole .before .before .before in
     put-within
     (put-then (whole .put-decimal .ensures)
     (put-then (point .put-byte .ensures)
     (put-then (tenths .put-digit .ensures) (put-then (hundredths .put-digit2 .ensures) (thousandths .put-digit3 .ensures)))))
-    (omega (arith, digits-of-whole (start .args .x) (start .fits .x .fits)))
+    (omega (arith, seven (whole .before .before .before)))
 
 pub put-viscosity-spec : {M : Type 1} → statement M
 put-viscosity-spec =

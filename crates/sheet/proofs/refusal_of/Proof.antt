@@ -1,10 +1,24 @@
 -- One law for each return: the questions before it were answered yes, its own no.
 -- Assumes nothing.
+use Prim.Native.Nat.{ℕ}
+use mathlib.Core.Path.{_≡_}
+use mathlib.Core.Bool.{true}
+use mathlib.Core.List.{List}
 use borrow.Author.Tests.{not-true, not-false}
 use borrow.Author.Needs.{needs}
-use Rattle.sheet.proofs.Questions.{within-asked, apart-asked, no-11, no-12, no-13, no-14, no-15, no-16, all-yes}
+use Rattle.sheet.proofs.Questions.{pairsWithin, resultsWithin, within-asked, apart-asked, no-11, no-12, no-13, no-14, no-15, no-16, all-yes}
 use Rattle.sheet.proofs.refusal_of.Statement.{statement}
 use Rattle.sheet.proofs.refusal_of.Tie as tie
+
+-- the sheet, at a place past its fourth question; there the pair block stands within it, and past the fifth the result block too
+abbrev sheet : tie.Else4 → List ℕ
+sheet c = c .before .before .before .before .before .before .before .before .before .args .sheet .now
+
+pairs-yes : (c : tie.Else4) → pairsWithin (sheet c) ≡ true
+pairs-yes c = within-asked (c .before .stands-within .ensures) (search needs) (search needs) (search needs) (not-false _ (c .if4 .left))
+
+results-yes : (c : tie.Else5) → resultsWithin (sheet (c .before .before .before)) ≡ true
+results-yes c = within-asked (c .before .stands-within2 .ensures) (search needs) (search needs) (search needs) (not-false _ (c .if5 .left))
 
 returns : tie.Need-returns
 returns c = no-11 _ (search needs)
@@ -66,7 +80,7 @@ returns-5 : tie.Need-returns-5
 returns-5 c =
     let pairs-asked = c .before .before .before in
     no-15 _ (search needs) (search needs) (search needs)
-    (within-asked (pairs-asked .before .stands-within .ensures) (search needs) (search needs) (search needs) (not-false _ (pairs-asked .if4 .left)))
+    (pairs-yes pairs-asked)
     (within-asked (c .before .stands-within2 .ensures) (search needs) (search needs) (search needs) (not-true _ (c .if5 .taken)))
 
 share-no-byte-requires : tie.Need-share-no-byte-requires
@@ -77,8 +91,7 @@ returns-6 c =
     let results-asked = c .before .before in
     let pairs-asked = results-asked .before .before .before in
     no-16 _ (search needs) (search needs) (search needs)
-    (within-asked (pairs-asked .before .stands-within .ensures) (search needs) (search needs) (search needs) (not-false _ (pairs-asked .if4 .left)))
-    (within-asked (results-asked .before .stands-within2 .ensures) (search needs) (search needs) (search needs) (not-false _ (results-asked .if5 .left)))
+    (pairs-yes pairs-asked) (results-yes results-asked)
     (apart-asked (c .before .share-no-byte .ensures) (search needs) (search needs) (search needs) (search needs) (not-true _ (c .if6 .taken)))
 
 returns-7 : tie.Need-returns-7
@@ -86,8 +99,7 @@ returns-7 c =
     let results-asked = c .before .before in
     let pairs-asked = results-asked .before .before .before in
     all-yes _ (search needs) (search needs) (search needs)
-    (within-asked (pairs-asked .before .stands-within .ensures) (search needs) (search needs) (search needs) (not-false _ (pairs-asked .if4 .left)))
-    (within-asked (results-asked .before .stands-within2 .ensures) (search needs) (search needs) (search needs) (not-false _ (results-asked .if5 .left)))
+    (pairs-yes pairs-asked) (results-yes results-asked)
     (apart-asked (c .before .share-no-byte .ensures) (search needs) (search needs) (search needs) (search needs) (not-false _ (c .if6 .left)))
 
 pub refusal-of-spec : {M : Type 1} → statement M

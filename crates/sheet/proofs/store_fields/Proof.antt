@@ -1,15 +1,15 @@
--- The head and three numbers, one behind the other, are the record laid out.
+-- The first four bytes and three numbers, one behind the other, are the record laid out.
 -- Assumes nothing.
-use mathlib.Core.Path.{refl}
+use native.Mathlib.Omega.{arith}
 use borrow.Author.Needs.{needs}
 use Rattle.sheet.specs.Bytes.{bytesOf}
 use Rattle.sheet.specs.Record.{headOf, laidOut}
-use Rattle.sheet.proofs.Stores.{stored-four}
+use Rattle.sheet.proofs.Stores.{stored-then}
 use Rattle.sheet.proofs.store_fields.Statement.{statement}
 use Rattle.sheet.proofs.store_fields.Tie as tie
 
-store-head-requires : tie.Need-store-head-requires
-store-head-requires c κs = search needs
+store-four-requires : tie.Need-store-four-requires
+store-four-requires c κs = search needs
 
 add-store-number : tie.Need-add-store-number
 add-store-number c = search needs
@@ -39,14 +39,15 @@ returns c =
     let third = fourth .before .before .before .before in
     let second = third .before .before .before .before in
     let first = second .before .before .before .before in
-    stored-four _ _ _ _ _ _ _ _ _ _ refl refl refl
-    (first .store-head .ensures) (second .store-number .ensures) (third .store-number2 .ensures) (fourth .store-number3 .ensures)
+    stored-then _ _ _ _ (first .store-four .ensures) (omega arith)
+    (stored-then _ _ _ _ (second .store-number .ensures) (omega arith)
+    (stored-then _ _ _ _ (third .store-number2 .ensures) (omega arith) (fourth .store-number3 .ensures)))
 
 pub store-fields-spec : {M : Type 1} → statement M
 store-fields-spec =
     tie.close
     (tie.spec
-    store-head-requires
+    store-four-requires
     add-store-number
     store-number-requires
     add-store-number-2

@@ -8,6 +8,7 @@ use lib.ListN.{length}
 use Rattle.sheet.specs.Bytes.{stored}
 use Rattle.sheet.specs.Sheet.{recordsOf}
 use Rattle.sheet.proofs.Stores.{length-stored}
+use Rattle.sheet.proofs.Blocks.{pair-within}
 use Rattle.sheet.proofs.Records.{none-stored, next-turn}
 use Rattle.sheet.proofs.work_pairs.Statement.{statement}
 use Rattle.sheet.proofs.work_pairs.Tie as tie
@@ -28,9 +29,7 @@ work-pair-requires : tie.Need-work-pair-requires Inv-loop μ-loop
 work-pair-requires c κs =
     let head = c .before .before in
     let start = head .before .before in
-    let blocks = start .pre .1 in
-    let size = kept head in
-    (start .pre .0, record { pair = omega arith; result = omega arith })
+    (start .pre .0, rw (kept head) (pair-within (start .pre .1) _ (search needs)))
 
 add-i : tie.Need-add-i Inv-loop μ-loop
 add-i c = search needs

@@ -4,7 +4,8 @@ use mathlib.Core.Path.{_≡_, sym, _∙_}
 use native.Mathlib.Omega.{arith}
 use borrow.Author.Needs.{needs}
 use Rattle.sheet.specs.Sheet.{sheetRefusal}
-use Rattle.sheet.proofs.Questions.{Accepted, accepted, blocks-read}
+use Rattle.sheet.proofs.Questions.{FailsNone, fails-none}
+use Rattle.sheet.proofs.Blocks.{blocks-read}
 use Rattle.sheet.proofs.Worked.{refused, worked}
 use Rattle.sheet.proofs.Demand3.{demand3}
 use Rattle.sheet.proofs.work_sheet.Statement.{statement}
@@ -13,8 +14,8 @@ use Rattle.sheet.proofs.work_sheet.Tie as tie
 none-failed : (c : tie.Else1) → sheetRefusal (c .before .before .before .before .args .sheet .now) ≡ 0
 none-failed c = sym (c .before .refusal-of .ensures) ∙ c .if1 .left
 
-known : (c : tie.Else1) → Accepted (c .before .before .before .before .args .sheet .now)
-known c = accepted _ (none-failed c)
+known : (c : tie.Else1) → FailsNone (c .before .before .before .before .args .sheet .now)
+known c = fails-none _ (none-failed c)
 
 refusal-of-requires : tie.Need-refusal-of-requires
 refusal-of-requires c κs = search needs
@@ -50,7 +51,7 @@ work-with-tables-requires c κs =
     let third = c .before in
     let second = third .before .before in
     let first = second .before .before in
-    blocks-read _ (known (first .before .before)) (first .number-at .ensures) (second .number-at2 .ensures) (third .number-at3 .ensures)
+    blocks-read (first .number-at .ensures) (second .number-at2 .ensures) (third .number-at3 .ensures) (known (first .before .before) .blocks)
 
 same-length-2 : tie.Need-same-length-2
 same-length-2 c = search needs

@@ -1,15 +1,14 @@
 -- A record of another length is left as it is; one of 16 bytes becomes the record of the pair's answer.
 -- Assumes nothing.
 use borrow.Author.Needs.{needs}
-use Rattle.index.proofs.Right.{right}
-use Rattle.viscosity_index.proofs.Calls.{wrong-length, filled}
+use Rattle.viscosity_index.proofs.Calls.{untouched, filled}
 use Rattle.viscosity_index.proofs.vi_pair.Statement.{statement}
 use Rattle.viscosity_index.proofs.vi_pair.Tie as tie
 
 returns : tie.Need-returns
 returns c =
-    let w = wrong-length _ _ _ (c .if1 .taken) in
-    (w .0, (w .1, right _ _))
+    let p = untouched _ _ _ (c .if1 .taken) in
+    (p .number-is, (p .bytes, p .call))
 
 answer-pair-requires : tie.Need-answer-pair-requires
 answer-pair-requires c κs = search needs
@@ -27,8 +26,8 @@ returns-2 : tie.Need-returns-2
 returns-2 c =
     let at-write = c .before .before .before in
     let at-answer = at-write .before .before in
-    let f = filled _ _ _ _ _ (at-answer .before .if1 .left) (at-answer .answer-pair .ensures .0) (at-write .write-result .ensures) (c .number-of .ensures) in
-    (f .0, (f .1, right _ _))
+    let p = filled _ _ _ _ _ (at-answer .before .if1 .left) (at-answer .answer-pair .ensures .0) (at-write .write-result .ensures) (c .number-of .ensures) in
+    (p .number-is, (p .bytes, p .call))
 
 pub vi-pair-spec : {M : Type 1} → statement M
 vi-pair-spec =

@@ -1,7 +1,7 @@
 -- The number of the sheet operation's answer, and the sheet that it leaves.
 -- Assumes nothing.
 use borrow.Author.Needs.{needs}
-use Rattle.viscosity_index.proofs.Calls.{sheet-called}
+use Rattle.viscosity_index.proofs.Calls.{sheet-number}
 use Rattle.viscosity_index.proofs.vi_sheet.Statement.{statement}
 use Rattle.viscosity_index.proofs.vi_sheet.Tie as tie
 
@@ -16,9 +16,8 @@ same-length c = search needs
 
 returns : tie.Need-returns
 returns c =
-    let at-work = c .before .before .before in
-    let s = sheet-called _ _ _ (c .number-of-sheet .ensures) (at-work .work-sheet .ensures .0) (at-work .work-sheet .ensures .1 .0) in
-    (s .0, (s .1, at-work .work-sheet .ensures .1 .1))
+    let worked = c .before .before .before .work-sheet .ensures in
+    (sheet-number _ (c .number-of-sheet .ensures) (worked .0), worked .1)
 
 pub vi-sheet-spec : {M : Type 1} → statement M
 vi-sheet-spec =

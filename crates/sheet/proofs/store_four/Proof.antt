@@ -1,14 +1,13 @@
--- The number, the method and two zeros stored.
+-- Four stores, one behind the other.
 -- Assumes nothing.
 use native.Mathlib.Omega.{arith}
 use native.Mathlib.Numerals.{add-one}
 use borrow.Author.Needs.{needs}
 use lib.ListN.{length-set}
 use Rattle.sheet.specs.Bytes.{stored}
-use Rattle.sheet.specs.Record.{headOf}
 use Rattle.sheet.proofs.Stores.{add-two, add-three}
-use Rattle.sheet.proofs.store_head.Statement.{statement}
-use Rattle.sheet.proofs.store_head.Tie as tie
+use Rattle.sheet.proofs.store_four.Statement.{statement}
+use Rattle.sheet.proofs.store_four.Tie as tie
 
 slice-write-to : tie.Need-slice-write-to
 slice-write-to c = search needs
@@ -35,11 +34,11 @@ same-length : tie.Need-same-length
 same-length c = search needs
 
 returns : tie.Need-returns
-unfolding headOf stored
+unfolding stored
 returns c = simp (add-one, add-two, add-three)
 
-pub store-head-spec : {M : Type 1} → statement M
-store-head-spec =
+pub store-four-spec : {M : Type 1} → statement M
+store-four-spec =
     tie.close
     (tie.spec
     slice-write-to
