@@ -258,18 +258,18 @@ fn search(first: &[u32; 512], second: &[u32; 512], p: u64) -> u64
     lo
 }
 
-// One step of the polynomials below: a + v · f, f in units of 2^-24.
+// One step of the polynomials below: a + v · f, f in units of 1 / Q.
 fn step(a: u64, v: u64, f: u64) -> u64
-    requires { ⌜ (a < 8589934592) × (v < 17179869184) × (f < 16777216) ⌝ }
+    requires { ⌜ (a < 8589934592) × (v < 17179869184) × (f < parts) ⌝ }
     ensures { λ r. ⌜ (a ≤ r) × (r ≤ a + v) ⌝ }
 {
-    a + v * f / 16_777_216
+    a + v * f / Q
 }
 
-// 2^(f / 2^24) in units of 2^-32, for f below 2^24: the polynomial of the fourth degree that fits best, off by at most 4 millionths
+// 2^(f / Q) in units of 2^-32, for f below Q: the polynomial of the fourth degree that fits best, off by at most 4 millionths
 // (tools/guesses).
 fn power_of_two(f: u64) -> u64
-    requires { ⌜ f < 16777216 ⌝ }
+    requires { ⌜ f < parts ⌝ }
     ensures { λ r. ⌜ r < 17179869184 ⌝ }
 {
     let cubic = step(222_008_401, 58_831_018, f);
@@ -291,17 +291,20 @@ fn within_search(k: u64) -> u64
     k
 }
 
+// By how much c grows from one whole index to the next: 715 for each hundredth.
+const INDEX_STEP: u64 = 71_500;
+
 // A guess of k from p, which nothing leans on: 10^(p / Q) as a power of two, then the index at it, rounded. 217,706 / 2^16 is close to log2 10.
 fn guess(p: u64) -> u64
     requires { ⌜ p ≤ mostLower ⌝ }
     ensures { λ r. ⌜ (100 ≤ r) × (r < 10000) ⌝ }
 {
     let z = p * 217_706 / 65_536;
-    let c = (10_000_000 * power_of_two(z % 16_777_216) / 4_294_967_296) << (z / 16_777_216 % 8);
+    let c = (10_000_000 * power_of_two(z % Q) / 4_294_967_296) << (z / Q % 8);
     if c < 10_000_000 {
         return 100;
     }
-    within_search((c - 2_814_250) / 71_500)
+    within_search((c - 10_000_000 + 100 * INDEX_STEP + INDEX_STEP / 2) / INDEX_STEP)
 }
 
 // An index by procedure B, from numbers that are known to fit.
@@ -356,12 +359,15 @@ fn wide(x: u32) -> u64
 fn guess_to_355(p: u64) -> u64
     ensures { λ r. ⌜ (100 ≤ r) × (r < 10000) ⌝ }
 {
-    let f = p % 16_777_216;
+    let f = p % Q;
     let cubic = step(981_663_726, 1_173_501_918, f);
     let square = step(1_591_115_290, cubic, f);
     let linear = step(1_348_622_236, square, f);
     step(421_547_260, linear, f) / 4_194_304
 }
+
+// The greatest index that the table of thresholds can settle: it has 257 entries, from 99.5 on.
+const GREATEST_SETTLED: u64 = 355;
 
 // Do two entries of the table of thresholds tell that k is settled? They do for most oils up to an index of 355; a no says nothing.
 fn settled_by_thresholds(thresholds: &[u32; 257], k: u64, p: u64, upper: u64) -> bool
@@ -369,7 +375,7 @@ fn settled_by_thresholds(thresholds: &[u32; 257], k: u64, p: u64, upper: u64) ->
     requires { ⌜ (100 ≤ k) × (p < upper) × (upper ≤ mostUpper) ⌝ }
     ensures { λ b. ⌜ (b ≡ true → trialOf k p upper ≡ Trial.Settled) ⌝ }
 {
-    if 355 < k {
+    if GREATEST_SETTLED < k {
         return false;
     }
     let i = (k - 100) as usize;
