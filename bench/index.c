@@ -225,8 +225,22 @@ static void report(const char *what, double *values)
     printf("  %-34s %9.2f  (%.2f to %.2f)\n", what, values[REPEATS / 2], values[0], values[REPEATS - 1]);
 }
 
+/* how many of the oils are below H, and how many of those have an index that the table of thresholds does not reach */
+static void describe(const struct oils *oils)
+{
+    int below = 0, high = 0;
+    for (int i = 0; i < PAIRS; i++) {
+        uint8_t record[16];
+        vi_pair(oils->u[i], oils->y[i], record, sizeof record);
+        below += record[VI_RECORD_METHOD] >= VI_METHOD_B_SETTLED;
+        high += record[VI_RECORD_METHOD] >= VI_METHOD_B_SETTLED && record[VI_RECORD_INDEX] + 256 * record[VI_RECORD_INDEX + 1] > 355;
+    }
+    printf("oils %s: %d of %d below H, %d of them with an index above 355\n", oils->name, below, PAIRS, high);
+}
+
 static void time_all(const struct oils *oils)
 {
+    describe(oils);
     static const struct {
         const char *label, *what;
         int n, passes;
@@ -249,7 +263,7 @@ static void time_all(const struct oils *oils)
         const char *label;
         int over, under;
     } ratios[] = {
-        {"sheet of 2,000 / plain C", 2, 0}, {"sheet of 2,000 / printed formula", 2, 1}, {"vi_pair / plain C", 5, 0},
+        {"sheet of 2,000 / plain C", 2, 0}, {"sheet of 2,000 / printed formula", 2, 1}, {"vi_pair / plain C", 5, 0}, {"vi_pair / printed formula", 5, 1},
         {"sheet of 60 / sheet of 2,000", 3, 2}, {"MPFR intervals / sheet of 2,000", 6, 2},
     };
     double all[KINDS][REPEATS];
