@@ -62,7 +62,7 @@
 #define VI_RECORD_LOWER 8u   /* 32 bits: p, by procedure B */
 #define VI_RECORD_UPPER 12u  /* 32 bits: P, by procedure B */
 
-/* The methods. L and H are the standard's two reference oils at this y; U is u in their units. */
+/* The methods. L and H are the viscosities at 40 °C of the standard's two reference oils that have this y; U is u in their units. */
 #define VI_METHOD_REFUSED 0u   /* the pair is refused by the question of its number */
 #define VI_METHOD_A 1u         /* u at or above H: the index is 100 (L - U) / (L - H) to the nearest, a half to the greater */
 #define VI_METHOD_B_SETTLED 2u /* u below H: the standard's exact value is from k - 0.5 to k + 0.5, k the index */
