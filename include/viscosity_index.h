@@ -62,13 +62,13 @@
 #define VI_RECORD_LOWER 8u   /* 32 bits: p, by procedure B */
 #define VI_RECORD_UPPER 12u  /* 32 bits: P, by procedure B */
 
-/* The methods. */
+/* The methods. L and H are the viscosities at 40 °C of the standard's two reference oils that have this y; U is u in their units. */
 #define VI_METHOD_REFUSED 0u   /* the pair is refused by the question of its number */
 #define VI_METHOD_A 1u         /* u at or above H: the index is 100 (L - U) / (L - H) to the nearest, a half to the greater */
 #define VI_METHOD_B_SETTLED 2u /* u below H: the standard's exact value is from k - 0.5 to k + 0.5, k the index */
 #define VI_METHOD_B_NEAR 3u    /* u below H: it is from k - 0.51 to k - 0.49, too close to a half to say more */
 
-/* p / Q and P / Q enclose the standard's N, whole-number powers of them show what the method says. The index by B is at most 10,000. */
+/* p / Q and P / Q enclose the standard's N; whole-number powers of them show what the method says. The index by B is at most 10,000. */
 #define VI_Q 16777216u
 #define VI_INDEX_B_GREATEST 10000
 

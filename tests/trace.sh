@@ -1,6 +1,6 @@
 #!/usr/bin/env bash
 # docs/TRACE.md and docs/PROMISES.md name nothing that is not there: each `crate/label` is a must-fail edit, each `crate/File.antt` a file of
-# specs/, each `crate:File` a file of proofs/; and every must-fail edit is named in one of the two.
+# specs/, each `crate:File` a file of proofs/, and the names after it are defined in it; and every must-fail edit is named in one of the two.
 set -u
 cd "$(dirname "$0")/.." || exit 1
 documents=(docs/TRACE.md docs/PROMISES.md)
@@ -21,6 +21,19 @@ for name in $named; do
     [ -f "$path" ] || miss "$name: there is no $path"
     count=$((count + 1))
 done
+# each `crate/File.antt`: `name`, .. and `crate:File`: `name`, .. is defined in that file
+while read -r line; do
+    file=${line%%\`:*}
+    file=${file#\`}
+    case $file in
+    *.antt) path=crates/${file%%/*}/specs/${file#*/} ;;
+    *) path=crates/${file%%:*}/proofs/${file#*:}.antt ;;
+    esac
+    for name in $(grep -oE '`[^`]+`' <<<"${line#*: }" | tr -d '`'); do
+        grep -qE "^ *((abbrev|unfoldable) )?(pub )?(record )?$name( |\$)" "$path" || miss "$name is not defined in $path"
+        count=$((count + 1))
+    done
+done < <(grep -ohE "\`($crates)[/:][A-Za-z0-9_]+(\.antt)?\`: (\`[^\`]+\`(, )?)+" "${documents[@]}")
 for edit in crates/*/must-fail/*.edit; do
     name=${edit#crates/}
     name=${name/\/must-fail\//\/}

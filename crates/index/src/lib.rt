@@ -129,6 +129,7 @@ fn floor_quotient(a: u64, b: u64, m: u64) -> i32
 }
 
 // 100 · (L − U) / (L − H) to the nearest whole number, exactly a half to the greater: that, plus a half, rounded down.
+// L − H is least in the first row, 1.6 mm²/s; L is greatest at 500 mm²/s, where it is 215,944; U is at most 1,000,000 mm²/s.
 fn rounded_a(l: u64, h: u64, u: u64) -> i32
     requires { ⌜ (h + 16000000000 ≤ l) × (l ≤ 2200000000000000) × (u ≤ 10000000000000000) ⌝ }
     ensures { λ r. ⌜ r ≡ roundedA l h u ⌝ }
@@ -354,8 +355,7 @@ fn wide(x: u32) -> u64
 }
 
 // A guess of k from p where the table of thresholds reaches, up to an index of 355; nothing leans on it. The index and a half, in units of
-// 2^-22: the polynomial of the fourth degree in p / Q that fits best there, off by at most 0.005 (tools/guesses). It takes half as long as
-// the guess that serves every p.
+// 2^-22: the polynomial of the fourth degree in p / Q that fits best there, off by at most 0.005 (tools/guesses).
 fn guess_to_355(p: u64) -> u64
     ensures { λ r. ⌜ (100 ≤ r) × (r < 10000) ⌝ }
 {

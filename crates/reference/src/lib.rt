@@ -144,7 +144,7 @@ fn at_place(rows: &[u32; 622], column: usize, p: Place) -> u64
 
 // a·y² + b·y − c
 fn quadratic(a: u64, b: u64, c: u64, y: u32) -> u64
-    requires { ⌜ (a < 10000) × (b < 150000000) × (y ≤ 500000) × (c ≤ a * (y * y) + b * y) ⌝ }
+    requires { ⌜ (a < 10000) × (b < 150000000) × (y ≤ greatest100) × (c ≤ a * (y * y) + b * y) ⌝ }
     ensures { λ r. ⌜ r ≡ a * (y * y) + b * y - c ⌝ }
 {
     let x = y as u64;

@@ -1,4 +1,4 @@
--- Document 01, 'The printing program': the lines that it shows "for the pairs (73300, 8860), (22830, 5050), (20000, 1999)", and one of each
+-- Document 01, 'The printing program': the lines that it shows "For the pairs (73300, 8860), (22830, 5050), (20000, 1999)", and one of each
 -- other kind, as the definitions give them. proofs/Examples.antt shows it by computation.
 -- Assumes nothing.
 use Prim.Native.Nat.{ℕ}
