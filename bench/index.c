@@ -233,9 +233,9 @@ static void describe(const struct oils *oils)
         uint8_t record[16];
         vi_pair(oils->u[i], oils->y[i], record, sizeof record);
         below += record[VI_RECORD_METHOD] >= VI_METHOD_B_SETTLED;
-        high += record[VI_RECORD_METHOD] >= VI_METHOD_B_SETTLED && record[VI_RECORD_INDEX] + 256 * record[VI_RECORD_INDEX + 1] > 355;
+        high += record[VI_RECORD_METHOD] >= VI_METHOD_B_SETTLED && record[VI_RECORD_INDEX] + 256 * record[VI_RECORD_INDEX + 1] > 611;
     }
-    printf("oils %s: %d of %d below H, %d of them with an index above 355\n", oils->name, below, PAIRS, high);
+    printf("oils %s: %d of %d below H, %d of them with an index above 611\n", oils->name, below, PAIRS, high);
 }
 
 static void time_all(const struct oils *oils)

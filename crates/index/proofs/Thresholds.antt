@@ -34,22 +34,22 @@ fails true b t e = let n : _≡_ {A = ℕ} 0 1 = cc in absurd (omega arith)
 fails false true t e = absurd t
 fails false false t e = refl
 
--- the table has 257 entries
-within : (i : ℕ) → i < 257 → i < length thresholdTable
+-- the table has 513 entries
+within : (i : ℕ) → i < 513 → i < length thresholdTable
 unfolding thresholdTable
 within i h = h
 
-shown : (i : ℕ) → i < 257 → showsLeast (getD thresholdTable i 0) (9950 + 100 * i) ≡ true
+shown : (i : ℕ) → i < 513 → showsLeast (getD thresholdTable i 0) (9950 + 100 * i) ≡ true
 unfolding right
 shown i h = passes _ (and-left (showsLeast (getD thresholdTable i 0) (9950 + 100 * i)) _ (at right thresholdTable whole-table i (within i h)))
 
-not-shown : (i : ℕ) → 0 < i → i < 257 → showsLeast (getD thresholdTable i 0 - 1) (9950 + 100 * i) ≡ false
+not-shown : (i : ℕ) → 0 < i → i < 513 → showsLeast (getD thresholdTable i 0 - 1) (9950 + 100 * i) ≡ false
 unfolding right
 not-shown i p h =
     fails (eqb i 0) _ (and-right (showsLeast (getD thresholdTable i 0) (9950 + 100 * i)) _ (at right thresholdTable whole-table i (within i h))) (ne-eqb i 0 (λ e. omega arith))
 
 -- k is settled where p has passed its threshold and P is at least 2 below the next one
-pub settled-by-thresholds : (k p P : ℕ) → 100 ≤ k → k < 356 → P ≤ mostUpper → p < P
+pub settled-by-thresholds : (k p P : ℕ) → 100 ≤ k → k < 612 → P ≤ mostUpper → p < P
     → getD thresholdTable (k - 100) 0 ≤ p → P + 2 ≤ getD thresholdTable (k - 100 + 1) 0 → trialOf k p P ≡ trial.Settled
 settled-by-thresholds k p P l h f m a b =
     let here : 9950 + 100 * (k - 100) ≡ 100 * k - 50 = omega arith in

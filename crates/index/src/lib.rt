@@ -354,23 +354,26 @@ fn wide(x: u32) -> u64
     x as u64
 }
 
-// A guess of k from p where the table of thresholds reaches, up to an index of 355; nothing leans on it. The index and a half, in units of
-// 2^-22: the polynomial of the fourth degree in p / Q that fits best there, off by at most 0.005 (tools/guesses).
-fn guess_to_355(p: u64) -> u64
+// The greatest index that the table of thresholds can settle, and its last entry: it has 513 entries, the first for an index of 99.5.
+const GREATEST_SETTLED: u64 = 611;
+
+const LAST_THRESHOLD: u64 = 11_209_315;
+
+// A guess of k from p where the table of thresholds reaches; nothing leans on it. The index and a half, in units of 2^-22: the polynomial of the
+// fifth degree in p / Q that fits best there, off by at most 0.003 (tools/guesses).
+fn guess_in_table(p: u64) -> u64
     ensures { λ r. ⌜ (100 ≤ r) × (r < 10000) ⌝ }
 {
     let f = p % Q;
-    let cubic = step(981_663_726, 1_173_501_918, f);
-    let square = step(1_591_115_290, cubic, f);
-    let linear = step(1_348_622_236, square, f);
-    step(421_547_260, linear, f) / 4_194_304
+    let fourth = step(354_094_440, 702_301_534, f);
+    let cubic = step(1_317_593_450, fourth, f);
+    let square = step(1_534_706_678, cubic, f);
+    let linear = step(1_351_945_917, square, f);
+    step(421_515_893, linear, f) / 4_194_304
 }
 
-// The greatest index that the table of thresholds can settle: it has 257 entries, from 99.5 on.
-const GREATEST_SETTLED: u64 = 355;
-
-// Do two entries of the table of thresholds tell that k is settled? They do for most oils up to an index of 355; a no says nothing.
-fn settled_by_thresholds(thresholds: &[u32; 257], k: u64, p: u64, upper: u64) -> bool
+// Do two entries of the table of thresholds tell that k is settled? They do for most oils up to GREATEST_SETTLED; a no says nothing.
+fn settled_by_thresholds(thresholds: &[u32; 513], k: u64, p: u64, upper: u64) -> bool
     requires lent { ⌜ now thresholds ≡ thresholdTable ⌝ }
     requires { ⌜ (100 ≤ k) × (p < upper) × (upper ≤ mostUpper) ⌝ }
     ensures { λ b. ⌜ (b ≡ true → trialOf k p upper ≡ Trial.Settled) ⌝ }
@@ -385,11 +388,28 @@ fn settled_by_thresholds(thresholds: &[u32; 257], k: u64, p: u64, upper: u64) ->
     upper + 2 <= wide(thresholds[i + 1])
 }
 
+// The index where the table of thresholds tells that it is settled, 0 where it does not. From its last entry on it never does: asked first, so
+// that a processor which took the wrong branch finds out before the guess.
+fn settled_index(thresholds: &[u32; 513], p: u64, upper: u64) -> u64
+    requires lent { ⌜ now thresholds ≡ thresholdTable ⌝ }
+    requires { ⌜ (p < upper) × (upper ≤ mostUpper) ⌝ }
+    ensures { λ r. ⌜ ((r ≡ 0 → ⊥) → (100 ≤ r) × (r < 10000) × (trialOf r p upper ≡ Trial.Settled)) ⌝ }
+{
+    if LAST_THRESHOLD <= p {
+        return 0;
+    }
+    let k = guess_in_table(p);
+    if settled_by_thresholds(thresholds, k, p, upper) {
+        return k;
+    }
+    0
+}
+
 // The index of p and P, by the table of thresholds where it tells.
 fn index_by_thresholds(
     first: &[u32; 512],
     second: &[u32; 512],
-    thresholds: &[u32; 257],
+    thresholds: &[u32; 513],
     p: u64,
     upper: u64,
 ) -> ByB
@@ -398,8 +418,8 @@ fn index_by_thresholds(
     requires { ⌜ (p ≤ mostLower) × (p < upper) × (upper ≤ mostUpper) ⌝ }
     ensures { λ r. ⌜ r ≡ markedOf (wholeOf p) p upper ⌝ }
 {
-    let k = guess_to_355(p);
-    if settled_by_thresholds(thresholds, k, p, upper) {
+    let k = settled_index(thresholds, p, upper);
+    if k != 0 {
         return by_b(k, Mark::Settled, p, upper);
     }
     index_of(first, second, p, upper)
@@ -426,7 +446,7 @@ fn fractions_of(first: &[u32; 512], second: &[u32; 512], oil: Oil) -> Fractions
 }
 
 // Procedure B for an oil below H.
-fn procedure_b(first: &[u32; 512], second: &[u32; 512], thresholds: &[u32; 257], oil: Oil) -> ByB
+fn procedure_b(first: &[u32; 512], second: &[u32; 512], thresholds: &[u32; 513], oil: Oil) -> ByB
     requires lent { ⌜ logarithm.Lent (now first) (now second) ⌝ }
     requires listed { ⌜ now thresholds ≡ thresholdTable ⌝ }
     requires { ⌜ OilBelowH oil ⌝ }
@@ -454,7 +474,7 @@ fn answer_passed(
     rows: &[u32; 622],
     first: &[u32; 512],
     second: &[u32; 512],
-    thresholds: &[u32; 257],
+    thresholds: &[u32; 513],
     pair: Viscosities,
 ) -> Answer
     requires lent { ⌜ Lent (now rows) (now first) (now second) (now thresholds) ⌝ }
@@ -502,7 +522,7 @@ pub fn answer_lent(
     rows: &[u32; 622],
     first: &[u32; 512],
     second: &[u32; 512],
-    thresholds: &[u32; 257],
+    thresholds: &[u32; 513],
     u: u32,
     y: u32,
 ) -> Answer
