@@ -1,25 +1,14 @@
 #!/usr/bin/env bash
 # Each must-fail edit is refused by a broken fact. One that adds a call or drops a step would be refused by any proof file, whatever the
-# promise says: so this fails where a log that `rt ci` left below target/must-fail has an error of a kind listed here, its first or a later
-# one, or no error of its own. That the fact is the one which the edit was made to break is for a reader of the log to say.
+# promise says: so this fails where a log that `rt ci` left below target/must-fail has an error of a kind that tests/misfits.txt lists, its
+# first or a later one, or no error of its own. That the fact is the one which the edit was made to break is for a reader of the log to say.
 set -u
 cd "$(dirname "$0")/.." || exit 1
 work=$(mktemp -d)
 trap 'rm -rf "$work"' EXIT
 bad=0
 
-# What the checker says of a proof file that does not fit the code: it names a goal, a name or a field that is not there, or has another
-# number of parts or of goals. The last three are said of a definition in specs/ that is none.
-misfits=(
-    'that can be named from here'
-    'is not in scope'
-    'has no field'
-    'components but its type has'
-    'expected type `tie.Need-'
-    'does not define it'
-    'needs a function (or path) type'
-    'is still open'
-)
+mapfile -t misfits < <(grep -vE '^(#|$)' tests/misfits.txt)
 
 # first_error LOG: the first error that does not only follow from another. A function without a proof file has none; then what was not
 # proved of it.
@@ -51,6 +40,7 @@ made broken-order '' "$follows" "$order" '  at `i` = 1'
 made broken-promise '' "$follows" 'note: lib.rt:1:1: it is not proved that what the function ensures holds'
 made missing-goal 'misfit: that can be named from here' 'P.antt:7:1: error: `a`: `Tie` has no `Need-a` that can be named from here' "$order"
 made missing-field 'misfit: has no field' 'P.antt:7:1: error: `a`: record `At`' '  has no field `args`'
+made missing-function 'misfit: for this file to be the proof of' 'P.antt: error: `c` has no function `f` for this file to be the proof of' "$order"
 made goal-too-many 'misfit: expected type `tie.Need-' "$order" 'P.antt:12:1: error: `s`: expected type `tie.Need-d`, but this has type `tie.Need-c`'
 made only-follows 'no error in its log' "$follows" 'logic=not-proved'
 
