@@ -104,7 +104,7 @@ static int by_value(const void *a, const void *b)
     return (x > y) - (x < y);
 }
 
-/* 2^k - 1, 2^k, 2^k + 1, and the first and the last mantissa of each place of the first level */
+/* 2^k - 1, 2^k, 2^k + 1, and the first and the last mantissa of each slot of the first level */
 static size_t edges(uint64_t *xs)
 {
     uint64_t limit = (uint64_t)1 << BITS, unit = limit / 2, spacing = unit / 256;

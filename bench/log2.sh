@@ -19,13 +19,13 @@ cp -r "$root/crates/laws" "$root/crates/logarithm" "$work/crates/"
 printf 'laws:\nlogarithm: laws\nlog2_c: logarithm\n' >"$work/crates.txt"
 
 cat >"$work/crates/log2_c/src/lib.rt" <<'RATTLE'
-ghost use Rattle.logarithm.specs.Log2.{Lent};
+ghost use Rattle.logarithm.specs.Preconditions.{LentLogarithms};
 
 const UNIT: u64 = 281474976710656;
 
 // A value out of range has the answer 0.
 fn log2_or_0(first: &[u32; 512], second: &[u32; 512], x: u64) -> u64
-    requires { ⌜ Lent (now first) (now second) ⌝ }
+    requires { ⌜ LentLogarithms (now first) (now second) ⌝ }
 {
     if x < 1 {
         return 0;
@@ -53,7 +53,7 @@ pub extern "C" fn log2_all(xs: &[u64], rs: &mut [u64]) {
 RATTLE
 
 cat >"$work/crates/log2_c/proofs/log2_all/Proof.antt" <<'ANTT'
--- `log2_c::log2_all` is safe: the index stays within both slices, and the copied tables are those that it lends. Assumes nothing.
+-- `log2_c::log2_all` is safe: the index stays within both slices, and the copied tables are those that it lends.
 use mathlib.Core.Path.{_≡_}
 use Prim.Native.Nat.{_≤_, _-_}
 use borrow.Author.Needs.{needs}

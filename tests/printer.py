@@ -173,7 +173,7 @@ def test_refused_sheets():
     refused("a result past the end", header(1, 16, 25, 40) + bytes(24), 15)
     refused("an offset that would wrap", header(1, 16, 0xFFFFFFF8, 40) + bytes(24), 15)
     refused("one block over the other", header(1, 16, 23, 40) + bytes(24), 16)
-    refused("the blocks at one place", header(1, 16, 16, 40) + bytes(24), 16)
+    refused("the blocks at one offset", header(1, 16, 16, 40) + bytes(24), 16)
 
 
 def test_sizes():

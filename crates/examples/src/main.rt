@@ -5,7 +5,7 @@ ghost use Rattle.sheet.specs.Sheet.{headerSize};
 use index::Answer;
 use index::Mark;
 use libc::STDOUT_FILENO;
-use reference::Reference;
+use reference::BasisAnswer;
 use sheet::SheetAnswer;
 use sheet::layout::HEADER_SIZE;
 use sheet::layout::PAIRS_AT;
@@ -22,24 +22,24 @@ fn told(example: &[u8], good: bool) {
 
 // L or H, in units of 10^-10 mm²/s; 0, which neither is, where y is refused.
 fn l_of(y: u32) -> u64 {
-    match reference::reference_oils(y) {
-        Reference::Oils(basis) => basis.l,
-        Reference::Refused(_) => 0,
+    match reference::answer_basis(y) {
+        BasisAnswer::Found(basis) => basis.l,
+        BasisAnswer::Refused(_) => 0,
     }
 }
 
 fn h_of(y: u32) -> u64 {
-    match reference::reference_oils(y) {
-        Reference::Oils(basis) => basis.h,
-        Reference::Refused(_) => 0,
+    match reference::answer_basis(y) {
+        BasisAnswer::Found(basis) => basis.h,
+        BasisAnswer::Refused(_) => 0,
     }
 }
 
 // Is y refused by that number when L and H are asked for?
-fn oils_refused(y: u32, number: u8) -> bool {
-    match reference::reference_oils(y) {
-        Reference::Oils(_) => false,
-        Reference::Refused(by) => by == number,
+fn basis_refused(y: u32, number: u8) -> bool {
+    match reference::answer_basis(y) {
+        BasisAnswer::Found(_) => false,
+        BasisAnswer::Refused(by) => by == number,
     }
 }
 
@@ -95,7 +95,7 @@ fn sheet_answers(at: usize, x: u8, number: u8) -> bool
     good && check::same(&handed, &worked)
 }
 
-fn reference_oils() {
+fn l_and_h() {
     told(b"y 8860: L 119.94", l_of(8_860) == 1_199_400_000_000);
     told(b"y 8860: H 69.48", h_of(8_860) == 694_800_000_000);
     told(b"y 5050: H 28.975", h_of(5_050) == 289_750_000_000);
@@ -127,9 +127,9 @@ fn answered_pairs() {
 }
 
 fn refused_pairs() {
-    told(b"L and H at y 1999: refused 1", oils_refused(1_999, 1));
+    told(b"L and H at y 1999: refused 1", basis_refused(1_999, 1));
     told(b"(20000, 1999): refused 1", refused(20_000, 1_999, 1));
-    told(b"L and H at y 500001: refused 2", oils_refused(500_001, 2));
+    told(b"L and H at y 500001: refused 2", basis_refused(500_001, 2));
     told(b"(600000, 500001): refused 2", refused(600_000, 500_001, 2));
     told(
         b"(1000000001, 2000): refused 3",
@@ -154,7 +154,7 @@ fn sheets() {
 }
 
 fn main() {
-    reference_oils();
+    l_and_h();
     answered_pairs();
     refused_pairs();
     sheets();

@@ -1,11 +1,10 @@
 -- The starred examples of document 01, computed from the definitions.
--- Assumes nothing.
 use mathlib.Core.Path.{refl}
 use Rattle.reference.specs.Table1.{table1}
 use Rattle.reference.specs.Basis.{entry, atPlace, L-at, H-at}
 use Rattle.reference.proofs.Examples.{starred-basis}
 use Rattle.index.specs.ProcedureA.{roundedA, indexA}
-use Rattle.index.specs.Chosen.{answerOf}
+use Rattle.index.specs.ChosenAnswer.{answerOf}
 use Rattle.index.specs.Examples.{StarredExamples}
 
 pub starred-examples : StarredExamples

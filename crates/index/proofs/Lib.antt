@@ -1,13 +1,8 @@
-pub mod Difference
-pub mod Floor
+-- The laws of the pair operation, each leaning on those before it. Crates above cite Right, Fits and Order.
+pub mod QuestionOrder
 pub mod ProcedureA
-pub mod Questions
 pub mod Cases
-pub mod Constants
-pub mod Gap
 pub mod Numerators
-pub mod Tests
-pub mod Halving
 pub mod OilLogarithms
 pub mod OilNumerators
 pub mod Right
@@ -15,4 +10,3 @@ pub mod Fits
 pub mod Order
 pub mod Examples
 pub mod Consistent
-pub mod Thresholds

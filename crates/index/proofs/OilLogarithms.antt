@@ -1,31 +1,30 @@
 -- What holds of the logarithms of y, U and H of an oil below H, from the limits and from the bounds of H by y.
--- Assumes nothing.
 use Prim.Native.Nat.{ℕ, _+_, _*_, _^_, _≤_, _<_}
 use mathlib.Core.Path.{_≡_, refl, sym}
 use native.Mathlib.Omega.{arith}
 use native.Mathlib.Nat.{le-trans, le-of-eq, mul-assoc, mul-comm, mul-left-comm, mul-le-mul-right, pow-le-pow-left}
 use lib.Pow.{pow-add}
 use Rattle.laws.proofs.Powers.{mul-pow, pow-one}
-use Rattle.reference.specs.Viscosity.{inUnits}
+use Rattle.reference.specs.Viscosity.{unitsPerThousandth, inUnits}
 use Rattle.reference.specs.Basis.{H-at}
 use Rattle.reference.proofs.Bounds.{bounds}
-use Rattle.reference.proofs.Range.{range, ratio}
-use Rattle.logarithm.specs.Scale.{scale, scaleNumber, width}
-use Rattle.logarithm.specs.Log2.{log2Of, InRange, Enclosed}
+use Rattle.reference.proofs.Range.{rangeFactor, range, ratio}
+use Rattle.logarithm.specs.Scale.{scale, scaleNumber, width, log1000}
+use Rattle.logarithm.specs.Log2.{log2Of, Enclosed}
+use Rattle.logarithm.specs.Preconditions.{InRange}
 use Rattle.logarithm.proofs.Log2.{log2-enclosed}
 use Rattle.logarithm.proofs.Rise.{log2-rises}
 use Rattle.logarithm.proofs.FromLogarithms.{logs-le, one-above, one-below}
-use Rattle.index.specs.Inner.{Passes}
-use Rattle.index.specs.Chosen.{log1000}
-use Rattle.index.proofs.Constants.{thousand, two-below, one-two-eight-above}
+use Rattle.index.specs.Preconditions.{Passes}
+use Rattle.logarithm.proofs.Constants.{thousand, two-below, one-two-eight-above}
 use Rattle.index.proofs.Numerators.{Logarithms}
 
 -- (H/U)^6 ≤ Y^11 in whole numbers
-sixth-power : (y U H : ℕ) → H ^ 6 ≤ 1000000000 * y ^ 17 → y * 10000000 ≤ U → H ^ 6 * 1000 ^ 11 ≤ U ^ 6 * y ^ 11
+sixth-power : (y U H : ℕ) → H ^ 6 ≤ rangeFactor * y ^ 17 → inUnits y ≤ U → H ^ 6 * 1000 ^ 11 ≤ U ^ 6 * y ^ 11
 sixth-power y U H h l =
     le-trans (mul-le-mul-right (1000 ^ 11) h)
-    (le-trans (le-of-eq (spread (y ^ 17) (y ^ 6) (y ^ 11) 1000000000 (1000 ^ 11) (10000000 ^ 6) (pow-add y 6 11) refl))
-    (mul-le-mul-right (y ^ 11) (le-trans (le-of-eq (sym (mul-pow y 10000000 6))) (pow-le-pow-left l 6))))
+    (le-trans (le-of-eq (spread (y ^ 17) (y ^ 6) (y ^ 11) rangeFactor (1000 ^ 11) (unitsPerThousandth ^ 6) (pow-add y 6 11) refl))
+    (mul-le-mul-right (y ^ 11) (le-trans (le-of-eq (sym (mul-pow y unitsPerThousandth 6))) (pow-le-pow-left l 6))))
   where
     spread : (a b c g h k : ℕ) → a ≡ b * c → k ≡ g * h → g * a * h ≡ b * k * c
     spread a b c g h k e f = rw (e, f) (simp (mul-assoc, mul-comm, mul-left-comm))

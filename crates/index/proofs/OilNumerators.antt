@@ -1,15 +1,31 @@
 -- The logarithms and numerators that the code finds for an oil below H are those of the definitions.
--- Assumes nothing.
 use Prim.Native.Nat.{ℕ, _<_}
-use mathlib.Core.Path.{_≡_, sym, _∙_, ap, ap₂, subst}
+use mathlib.Core.Path.{_≡_, refl, sym, _∙_, ap, ap₂, subst}
 use native.Mathlib.Omega.{arith}
 use Rattle.reference.specs.Viscosity.{inUnits}
 use Rattle.reference.specs.Basis.{H-at}
-use Rattle.logarithm.specs.Log2.{log2Of, InRange}
-use Rattle.index.specs.declared.Oil.{Oil}
-use Rattle.index.specs.Chosen.{InBounds, lowerFrom, upperFrom, lowerOfPair, upperOfPair, wholeOf, markedOf, byB, Found, OilBelowH}
+use Rattle.logarithm.specs.Log2.{log2Of}
+use Rattle.logarithm.specs.Preconditions.{InRange}
+use Rattle.index.specs.declared.procedure_b.Oil.{Oil}
+use Rattle.index.specs.Preconditions.{Passes, InBounds, OilBelowH}
+use Rattle.index.specs.ChosenFractions.{lowerFrom, upperFrom, lowerOfPair, upperOfPair, byB, FoundFractions}
+use Rattle.shown_index.specs.ChosenIndex.{chosenIndex}
 use Rattle.index.proofs.Numerators.{Logarithms, in-bounds, few, upper}
 use Rattle.index.proofs.OilLogarithms as logarithms
+
+-- the numerators of a pair below H fit their fields
+pub pair-numerators : (u y : ℕ) → Passes u y → inUnits u < H-at y → FoundFractions u y (lowerOfPair u y) (upperOfPair u y)
+unfolding lowerOfPair upperOfPair
+pair-numerators u y a l =
+    let o = logarithms.logarithms u y a l in
+    let v = upper y (inUnits u) (H-at y) (log2Of y) (log2Of (inUnits u)) (log2Of (H-at y)) o in
+    record {
+      lower-is = refl;
+      upper-is = refl;
+      lower-fits = few y (inUnits u) (H-at y) (log2Of y) (log2Of (inUnits u)) (log2Of (H-at y)) o;
+      order = v .more;
+      next = v .most;
+    }
 
 module _ (oil : Oil) (b : OilBelowH oil) where
   below : inUnits (oil .u) < H-at (oil .y)
@@ -43,20 +59,10 @@ module _ (oil : Oil) (b : OilBelowH oil) where
       unfolding upperOfPair
       upper-is = eP ∙ rw (lower-is, ey, eU, eH′)
 
-      pub pair-found : Found (oil .u) (oil .y) p P
-      pair-found =
-          let same : P ≡ upperFrom ly lU lH (lowerFrom ly lU lH) = eP ∙ ap (upperFrom ly lU lH) ep in
-          let f = few _ _ _ _ _ _ found in
-          let v = upper _ _ _ _ _ _ found in
-          record {
-            lower-is = lower-is;
-            upper-is = upper-is;
-            lower-fits = omega (arith, f);
-            order = omega (arith, v .more);
-            upper-fits = omega (arith, v .most, f);
-          }
+      pub pair-found : FoundFractions (oil .u) (oil .y) p P
+      pair-found = rw (lower-is, upper-is) (pair-numerators (oil .u) (oil .y) (b .passes) below)
 
 -- the index of the p and P found is the pair's
-pub by-b-is : (u y p P : ℕ) → Found u y p P → markedOf (wholeOf p) p P ≡ byB u y
+pub by-b-is : (u y p P : ℕ) → FoundFractions u y p P → chosenIndex p P ≡ byB u y
 unfolding byB
-by-b-is u y p P f = ap₂ (λ (p : ℕ) (P : ℕ). markedOf (wholeOf p) p P) (f .lower-is) (f .upper-is)
+by-b-is u y p P f = ap₂ chosenIndex (f .lower-is) (f .upper-is)

@@ -1,58 +1,67 @@
--- The index of procedure A as one difference rounded down, as the code computes it; at one y it never rises with u, and at or above H it is
--- at most 100.
--- Assumes nothing.
-use Prim.Native.Nat.{ℕ, suc, _+_, _*_, _-_, _/_, _<_, _≤_}
-use mathlib.Core.Path.{_≡_, sym, _∙_, ap}
-use lib.IntN.{ℤ, pos, subℕ, _+ℤ_, _-ℤ_, _*ℤ_}
-use lib.Signed.{_≤ℤ_}
+-- The index of procedure A as the nearest whole number of one difference, and of the one that the code computes; at one y it never rises with u, and at
+-- or above H it is at most 100 and fits 32 bits.
+use Prim.Native.Nat.{ℕ, _*_, _-_, _<_, _≤_}
+use mathlib.Core.Path.{_≡_, _∙_, ap}
+use lib.IntN.{ℤ, pos, subℕ, _-ℤ_, _*ℤ_}
+use lib.Signed.{_≤ℤ_, mag}
 use native.Mathlib.Omega.{arith}
-use native.Mathlib.Nat.{le-trans, div-lt-iff-lt-mul}
-use Rattle.laws.proofs.Order.{by-order}
+use Rattle.laws.proofs.Difference.{pos-less, times-sub, sub-same}
 use Rattle.reference.specs.Viscosity.{least100, greatest100, inUnits}
 use Rattle.reference.specs.Basis.{L-at, H-at}
 use Rattle.reference.proofs.Bounds.{bounds}
-use Rattle.index.specs.ProcedureA.{floorDiv, roundedA, indexA}
-use Rattle.index.proofs.Difference.{sub-pos, sub-neg, sub-same, sub-falls, pos-less, times-neg, pos-le}
-use Rattle.index.proofs.Floor.{quotient-le, floor-le}
+use Rattle.rounding.specs.Nearest.{nearest}
+use Rattle.laws.specs.Bits.{half32}
+use Rattle.rounding.specs.Preconditions.{QuotientFits}
+use Rattle.rounding.proofs.Quotient.{nearest-falls, nearest-most, nearest-fits}
+use Rattle.index.specs.ProcedureA.{roundedA, indexA}
+use Rattle.index.specs.Preconditions.{Passes, FractionFits}
 
-numerator : (l u g : ℕ) → pos 2 *ℤ (pos 100 *ℤ (pos l -ℤ pos u)) +ℤ pos g ≡ subℕ (200 * l + g) (200 * u)
-numerator l u g =
-    ap (λ (z : ℤ). pos 2 *ℤ (pos 100 *ℤ z) +ℤ pos g) (pos-less l u)
-    ∙ by-order l u
-    (λ h. ap (λ (z : ℤ). pos 2 *ℤ (pos 100 *ℤ z) +ℤ pos g) (sub-neg l u h)
-    ∙ ap (λ (z : ℤ). pos 2 *ℤ z +ℤ pos g) (times-neg 99 (u - suc l))
-    ∙ ap (λ (z : ℤ). z +ℤ pos g) (times-neg 1 (100 * suc (u - suc l) - 1))
-    ∙ sub-same g (suc (2 * suc (100 * suc (u - suc l) - 1) - 1)) (200 * l + g) (200 * u) (omega arith))
-    (λ h. ap (λ (z : ℤ). pos 2 *ℤ (pos 100 *ℤ z) +ℤ pos g) (sub-pos l u h)
-    ∙ ap pos (omega arith) ∙ sym (sub-pos (200 * l + g) (200 * u) (omega arith)))
+numerator : (l u : ℕ) → pos 100 *ℤ (pos l -ℤ pos u) ≡ subℕ (100 * l) (100 * u)
+numerator l u = ap (λ (z : ℤ). pos 100 *ℤ z) (pos-less l u) ∙ times-sub 100 l u
 
-pub rounded : (l h u : ℕ) → roundedA l h u ≡ floorDiv (subℕ (200 * l + (l - h)) (200 * u)) (2 * (l - h))
+pub rounded : (l h u : ℕ) → roundedA l h u ≡ nearest (subℕ (100 * l) (100 * u)) (l - h)
 unfolding roundedA
-rounded l h u = ap (λ (z : ℤ). floorDiv z (2 * (l - h))) (numerator l u (l - h))
+rounded l h u = ap (λ (z : ℤ). nearest z (l - h)) (numerator l u)
 
-pub falls : (l h u v : ℕ) → u ≤ v → roundedA l h v ≤ℤ roundedA l h u
-falls l h u v le =
-    rw (rounded l h u, rounded l h v)
-    (floor-le (subℕ (200 * l + (l - h)) (200 * v)) (subℕ (200 * l + (l - h)) (200 * u)) (2 * (l - h))
-    (sub-falls (200 * l + (l - h)) (200 * u) (200 * v) (omega arith)))
+-- the same from H on: 100 · (L − U) is 100 · (L − H) less 100 · (U − H)
+pub rounded-from-h : (l h u : ℕ) → FractionFits l h u → roundedA l h u ≡ nearest (subℕ (100 * (l - h)) (100 * (u - h))) (l - h)
+rounded-from-h l h u f =
+    rounded l h u
+    ∙ ap (λ (z : ℤ). nearest z (l - h)) (sub-same (100 * l) (100 * u) (100 * (l - h)) (100 * (u - h)) (omega (arith, f .at-or-above, f .apart)))
+
+pub quotient-fits : (l h u : ℕ) → FractionFits l h u → QuotientFits 100 (100 * (u - h)) (l - h)
+quotient-fits l h u f =
+    record {
+      some = omega (arith, f .apart);
+      small-w = omega arith;
+      small-x = omega (arith, f .most-u);
+      small-d = omega (arith, f .most-l);
+      fits = omega (arith, f .apart, f .most-u);
+    }
+
+-- ---- of a pair
 
 pub index-falls : (y u v : ℕ) → u ≤ v → indexA v y ≤ℤ indexA u y
 unfolding indexA
-index-falls y u v le = falls (L-at y) (H-at y) (inUnits u) (inUnits v) (omega arith)
-
--- 201·g / 2·g is 100
-hundred : (g : ℕ) → 0 < g → 201 * g / (2 * g) ≤ 100
-hundred g p = omega (arith, div-lt-iff-lt-mul {k = 2 * g} {x = 201 * g} {y = 101} (omega arith) .1 (omega arith))
-
-most : (l h u : ℕ) → h < l → h ≤ u → roundedA l h u ≤ℤ pos 100
-most l h u lt le =
-    rw (rounded l h u)
-    (by-order (200 * l + (l - h)) (200 * u)
-    (λ n. rw (sub-neg (200 * l + (l - h)) (200 * u) n) (record { le = tt }))
-    (λ m. rw (sub-pos (200 * l + (l - h)) (200 * u) m)
-    (pos-le ((200 * l + (l - h) - 200 * u) / (2 * (l - h))) 100
-    (le-trans (quotient-le (200 * l + (l - h) - 200 * u) (201 * (l - h)) (2 * (l - h)) (omega arith)) (hundred (l - h) (omega arith))))))
+index-falls y u v le =
+    rw (rounded (L-at y) (H-at y) (inUnits u), rounded (L-at y) (H-at y) (inUnits v))
+    (nearest-falls (100 * L-at y) (100 * inUnits u) (100 * inUnits v) (L-at y - H-at y) (omega arith))
 
 pub index-most : (y u : ℕ) → least100 ≤ y → y ≤ greatest100 → H-at y ≤ inUnits u → indexA u y ≤ℤ pos 100
 unfolding indexA
-index-most y u low high le = most (L-at y) (H-at y) (inUnits u) (omega (arith, bounds y low high .apart)) le
+index-most y u low high le =
+    let b = bounds y low high in
+    rw (rounded (L-at y) (H-at y) (inUnits u))
+    (nearest-most (100 * L-at y) (100 * inUnits u) (L-at y - H-at y) 100 (omega (arith, b .apart)) (omega (arith, b .apart)))
+
+pub pair-fits : (u y : ℕ) → Passes u y → H-at y ≤ inUnits u → FractionFits (L-at y) (H-at y) (inUnits u)
+pair-fits u y a le =
+    let b = bounds y (a .least) (a .most) in
+    record { at-or-above = le; apart = b .apart; most-l = b .most-l; most-u = omega (arith, a .thickest) }
+
+pub index-fits : (u y : ℕ) → Passes u y → H-at y ≤ inUnits u → mag (indexA u y) < half32
+unfolding indexA
+index-fits u y a le =
+    let f = pair-fits u y a le in
+    rw (rounded-from-h (L-at y) (H-at y) (inUnits u) f)
+    (nearest-fits 100 (100 * (inUnits u - H-at y)) (L-at y - H-at y) (quotient-fits (L-at y) (H-at y) (inUnits u) f))

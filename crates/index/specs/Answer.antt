@@ -1,16 +1,16 @@
 -- Document 01: "The answer to a pair is one of three: refused with its number; by A with the index; by B with the index, its mark and its two
 -- fractions." This paper's number and values for each case, and when an answer is right.
--- Assumes nothing.
 use mathlib.Core.Path.{_≡_}
 use Prim.Native.Nat.{ℕ, _<_, _≤_}
 use lib.IntN.{ℤ, pos}
 use Rattle.reference.specs.Viscosity.{inUnits}
 use Rattle.reference.specs.Basis.{H-at}
-use Rattle.index.specs.declared.Mark.{Mark}
-use Rattle.index.specs.declared.Mark.the-variants as mark
-use Rattle.index.specs.declared.ByB.{ByB}
-use Rattle.index.specs.declared.Answer.{Answer}
-use Rattle.index.specs.declared.Answer.the-variants.{Refused, A, B}
+use Rattle.shown_index.specs.declared.Mark.{Mark}
+use Rattle.shown_index.specs.declared.Mark.the-variants as mark
+use Rattle.shown_index.specs.declared.ByB.{ByB}
+use Rattle.shown_index.specs.Terms.{leastIndex, mostIndex}
+use Rattle.index.specs.declared.answer.Answer.{Answer}
+use Rattle.index.specs.declared.answer.Answer.the-variants.{Refused, A, B}
 use Rattle.index.specs.Questions.{refusal}
 use Rattle.index.specs.ProcedureA.{indexA}
 use Rattle.index.specs.ProcedureB.{Marked}
@@ -50,8 +50,8 @@ upperOf (B b) = b .upper
 -- an oil below H: its index is at least 100, as H itself has, and "at most 10,000"; and what its mark says, shown by its own two fractions
 pub record RightB (u y : ℕ) (b : ByB) : Type 0 where
   pub below : inUnits u < H-at y
-  pub least : 100 ≤ b .index
-  pub most : b .index ≤ 10000
+  pub least : leastIndex ≤ b .index
+  pub most : b .index ≤ mostIndex
   pub marked : Marked (b .mark) u y (b .index) (b .lower) (b .upper)
 
 -- by cases: a refusal is by a question; by A, u is at or above H and the index is the rounded fraction; by B, as above

@@ -1,6 +1,5 @@
 -- Certificates do not contradict each other: what one p shows to be at least r and one P to be at most s has r ≤ s. So no mark can be shown of an
 -- oil that has it not: an oil that is settled k is near no other number than k and k + 1, and only beside that half. proofs/Consistent.antt shows it.
--- Assumes nothing.
 use Prim.Native.Nat.{ℕ, _<_, _≤_}
 use Rattle.index.specs.ProcedureB.{AtLeast, AtMost}
 

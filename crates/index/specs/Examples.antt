@@ -1,14 +1,13 @@
 -- Document 01, 'Pairs and sheets to try': all starred examples, gathered into one statement about the definitions.
 -- proofs/Examples.antt shows it by computation.
--- Assumes nothing.
 use Prim.Native.Nat.{_*_, _-_}
 use mathlib.Core.Path.{_≡_}
 use lib.IntN.{pos, negsuc}
 use Rattle.reference.specs.Viscosity.{inUnits}
 use Rattle.reference.specs.Basis.{L-at, H-at}
 use Rattle.reference.specs.Examples.{StarredBasis}
-use Rattle.index.specs.declared.Answer.the-variants.{A}
-use Rattle.index.specs.Chosen.{answerOf}
+use Rattle.index.specs.declared.answer.Answer.the-variants.{A}
+use Rattle.index.specs.ChosenAnswer.{answerOf}
 
 -- a negative number is `negsuc n`, which is −(n + 1)
 pub record StarredExamples : Type 0 where

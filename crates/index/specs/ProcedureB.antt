@@ -1,25 +1,11 @@
 -- Document 01, 'Procedure B, u below H': "index = (10^N − 1)/0.00715 + 100, with Y^N = H/U", enclosed by whole-number powers of two fractions.
--- r is an index in hundredths; p and P are the numerators of the two fractions over Q.
--- Assumes nothing.
-use mathlib.Core.Path.{_≡_, refl}
+-- r is an index in hundredths; p and P are the numerators of the two fractions over Q. Q and c(r) stand in crate shown_index.
 use Prim.Native.Nat.{ℕ, _+_, _*_, _-_, _^_, _≤_}
 use Rattle.reference.specs.Viscosity.{inUnits}
 use Rattle.reference.specs.Basis.{H-at}
-use Rattle.index.specs.declared.Mark.{Mark}
-use Rattle.index.specs.declared.Mark.the-variants as mark
-
--- "Put Q = 16,777,216". The name is shut, so that nothing ever computes a power to it: laws are stated over any exponent and used at Q, and
--- `Q-is` is used only where what is left is linear
-pub Q : ℕ
-Q = 16777216
-
-pub Q-is : Q ≡ 16777216
-unfolding Q
-Q-is = refl
-
--- "c(r) = 10,000,000 + 715·(r − 10,000)": 10^7 times 10^N at an index of r hundredths
-abbrev pub c : ℕ → ℕ
-c r = 10000000 + 715 * r - 715 * 10000
+use Rattle.shown_index.specs.Terms.{Q, c}
+use Rattle.shown_index.specs.declared.Mark.{Mark}
+use Rattle.shown_index.specs.declared.Mark.the-variants as mark
 
 -- "'At least r' is shown by p when c(r)^Q ≤ 10^p · 10^(7Q) and y^p · U^Q ≤ 1000^p · H^Q."
 pub record AtLeast (u y r p : ℕ) : Type 0 where

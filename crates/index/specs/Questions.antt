@@ -1,9 +1,10 @@
 -- Document 01, 'Questions to a pair': u at 40 °C and y at 100 °C, in thousandths of a mm²/s.
--- Assumes nothing.
 use Prim.Native.Nat.{ℕ}
-use mathlib.Core.Bool.{Bool, true, false}
-use lib.Dec.{ltb, leb}
+use mathlib.Core.Bool.{Bool, true, false, cond}
+use lib.Dec.{ltb, leb, eqb}
 use Rattle.reference.specs.Viscosity.{least100, greatest100, greatest40}
+use Rattle.index.specs.declared.questions.Asked.{Asked}
+use Rattle.index.specs.declared.questions.Asked.the-variants.{Refused, Passed}
 
 -- a question and its number, then what comes after it: "Asked in this order; the first no gives its number."
 abbrev pub ask : Bool → ℕ → ℕ → ℕ
@@ -21,3 +22,10 @@ refusal u y =
     (ask (leb u greatest40) 3
     -- "Is u greater than y? No: 4."
     (ask (ltb y u) 4 0)))
+
+-- what the code that asks them answers: the number or the two viscosities
+unfoldable pub askedOf : ℕ → ℕ → Asked
+askedOf u y =
+    cond (eqb (refusal u y) 0)
+    (Passed (record { u = record { thousandths = u }; y = record { thousandths = y } }))
+    (Refused (refusal u y))

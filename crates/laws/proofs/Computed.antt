@@ -1,5 +1,4 @@
 -- Tests that the checker computes over a whole range or a whole table, and the laws from such a test to each number or entry.
--- Assumes nothing.
 use mathlib.Core.Path.{_≡_, _∙_, subst, sym}
 use mathlib.Core.Bool.{Bool, true, false, _&&_}
 use mathlib.Core.List.{List, [], _∷_}
@@ -32,7 +31,7 @@ below f (suc n) t k h =
     (λ (l : k < n). below f n (and-right (f n) (upTo f n) t) k l)
     (eq-or-lt-of-le (le-of-suc-le-suc h))
 
--- ---- a test at each entry of a list and its place, counted from i
+-- ---- a test at each entry of a list and its index, counted from i
 
 abbrev pub every : (ℕ → ℕ → Bool) → ℕ → List ℕ → Bool
 every f i [] = true

@@ -1,11 +1,11 @@
 -- Laws of powers whose exponents are variables, so that a crate can use them at an exponent that no check may compute.
--- Assumes nothing.
 use mathlib.Core.Path.{_≡_, refl, sym, ap, _∙_, subst, subst₂}
-use Prim.Native.Nat.{ℕ, zero, suc, _+_, _*_, _^_, _≤_, _<_}
-use native.Mathlib.Nat.{le-refl, lt-of-not-le, mul-assoc, mul-comm, mul-left-comm, mul-one, one-mul, mul-zero, zero-mul, add-zero, mul-suc, suc-mul, add-mul, mul-add, pow-zero, pow-suc, pow-lt-pow-left, pow-le-pow-left, mul-le-mul-left, mul-le-mul-right, le-of-mul-le-mul-left, le-of-mul-le-mul-right, one-le-pow}
+use Prim.Native.Nat.{ℕ, zero, suc, _+_, _*_, _-_, _^_, _≤_, _<_}
+use native.Mathlib.Nat.{le-refl, lt-of-not-le, mul-assoc, mul-comm, mul-left-comm, mul-one, one-mul, mul-zero, zero-mul, add-zero, mul-suc, suc-mul, add-mul, mul-add, pow-zero, pow-suc, pow-lt-pow-left, pow-le-pow-left, mul-le-mul-left, mul-le-mul-right, le-of-mul-le-mul-left, le-of-mul-le-mul-right, mul-pos, one-le-pow}
 use native.Mathlib.Decide.{decLe}
 use native.Mathlib.Omega.{arith}
 use lib.Pow.{pow-add, pow-lt}
+use Rattle.laws.proofs.Order.{by-order}
 
 -- Products multiplied out and sorted, so that omega reads what is left as a sum of unknowns: `simp ring (omega (arith, simp ring at h))`.
 pub ruleset ring = (mul-add, add-mul, mul-suc, suc-mul, mul-assoc, mul-comm, mul-left-comm)
@@ -58,20 +58,40 @@ exponents-le a b h = go (decLe a b)
     go (yes l) = l
     go (no l) = let q : 2 ^ b < 2 ^ a = pow-lt (lt-of-not-le l) in absurd (omega arith)
 
+-- The order of exponents from orders of powers: if (y / x)^p * u ≤ h and h ≤ (y / x)^P * u, with y above x, then p ≤ P. In the algebra every
+-- power is a variable: A = y^P, B = x^P, a = y^s, b = x^s, where P + s = p.
+exponents-algebra : (A B a b u h : ℕ) → 0 < A * u → A * a * u ≤ B * b * h → B * h ≤ A * u → a ≤ b
+exponents-algebra A B a b u h z i j =
+    le-of-mul-le-mul-right {k = A * u} (simp ring (omega (arith, simp ring at i, simp ring at (mul-le-mul-left b j)))) z
+
+pub exponents-in-order :
+    (x y u h p P : ℕ) → x < y → 0 < u → y ^ p * u ≤ x ^ p * h → x ^ P * h ≤ y ^ P * u → p ≤ P
+exponents-in-order x y u h p P base some low high =
+    by-order P p
+    (λ more.
+    let e : P + (p - P) ≡ p = omega arith in
+    let i : y ^ P * y ^ (p - P) * u ≤ x ^ P * x ^ (p - P) * h =
+    subst₂ (λ (v w : ℕ). v * u ≤ w * h) (ap (λ (k : ℕ). y ^ k) (sym e) ∙ pow-add y P (p - P)) (ap (λ (k : ℕ). x ^ k) (sym e) ∙ pow-add x P (p - P)) low in
+    let l : y ^ (p - P) ≤ x ^ (p - P) =
+    exponents-algebra (y ^ P) (x ^ P) (y ^ (p - P)) (x ^ (p - P)) u h (mul-pos (one-le-pow P y (omega arith)) some) i high in
+    let m : x ^ (p - P) < y ^ (p - P) = pow-lt-pow-left base (λ z. omega arith) in
+    absurd (omega arith))
+    (λ most. most)
+
 -- ---- powers of a sum against a straight line
 
-bernoulli-step : (A B c d n : ℕ) → A * (c + n * d) ≤ B * c → A ≤ B → A * c * (c + suc n * d) ≤ B * (c + d) * c
-bernoulli-step A B c d n h k =
+bernoulli-once-more : (A B c d n : ℕ) → A * (c + n * d) ≤ B * c → A ≤ B → A * c * (c + suc n * d) ≤ B * (c + d) * c
+bernoulli-once-more A B c d n h k =
     simp ring (omega (arith, simp ring at (mul-le-mul-right c h), mul-le-mul-right (c * d) k))
 
 -- Bernoulli: (1 + d / c)^n is at least 1 + n * d / c
 pub bernoulli : (c d n : ℕ) → c ^ n * (c + n * d) ≤ (c + d) ^ n * c
 bernoulli c d zero = simp (pow-zero, zero-mul, add-zero) (le-refl _)
 bernoulli c d (suc n) =
-    simp pow-suc (bernoulli-step (c ^ n) ((c + d) ^ n) c d n (bernoulli c d n) (pow-le-pow-left (omega arith) n))
+    simp pow-suc (bernoulli-once-more (c ^ n) ((c + d) ^ n) c d n (bernoulli c d n) (pow-le-pow-left (omega arith) n))
 
-steps-step : (A B M b n : ℕ) → b ≤ M → A * (b + 1) ≤ B * (b + 1 + n) → A * (M + 1) * b ≤ B * M * (b + suc n)
-steps-step A B M b n l h =
+steps-once-more : (A B M b n : ℕ) → b ≤ M → A * (b + 1) ≤ B * (b + 1 + n) → A * (M + 1) * b ≤ B * M * (b + suc n)
+steps-once-more A B M b n l h =
     simp ring (omega (arith, simp ring at (mul-le-mul-right M h), mul-le-mul-left A l))
 
 -- n steps of one part in M, all at or below M: (1 + 1 / M)^n is at most 1 + n / b
@@ -79,24 +99,24 @@ pub steps-at-most : (M b n : ℕ) → b + n ≤ M → (M + 1) ^ n * b ≤ M ^ n 
 steps-at-most M b zero e = simp (pow-zero, add-zero) (le-refl _)
 steps-at-most M b (suc n) e =
     let e' : b + 1 + n ≤ M = omega arith in
-    simp pow-suc (steps-step ((M + 1) ^ n) (M ^ n) M b n (omega arith) (steps-at-most M (b + 1) n e'))
+    simp pow-suc (steps-once-more ((M + 1) ^ n) (M ^ n) M b n (omega arith) (steps-at-most M (b + 1) n e'))
 
--- ---- the gap between two powers
+-- ---- how much a power grows
 
-gap-step : (q c d n : ℕ) → 0 < c → c ≤ q * (n * d) → (q + 1) * c ^ n ≤ q * (c + d) ^ n
-gap-step q c d n p h = le-of-mul-le-mul-right {k = c} (algebra (c ^ n) ((c + d) ^ n) q c (n * d) (bernoulli c d n) h) p
+one-power-grows : (q c d n : ℕ) → 0 < c → c ≤ q * (n * d) → (q + 1) * c ^ n ≤ q * (c + d) ^ n
+one-power-grows q c d n p h = le-of-mul-le-mul-right {k = c} (algebra (c ^ n) ((c + d) ^ n) q c (n * d) (bernoulli c d n) h) p
   where
     algebra : (A B q c e : ℕ) → A * (c + e) ≤ B * c → c ≤ q * e → (q + 1) * A * c ≤ q * B * c
     algebra A B q c e l h = simp ring (omega (arith, simp ring at (mul-le-mul-left q l), mul-le-mul-left A h))
 
-gap-cancel : (G X Y A B : ℕ) → 0 < X → G * X ≤ Y → Y * A ≤ X * B → G * A ≤ B
-gap-cancel G X Y A B p h l = le-of-mul-le-mul-left {k = X} (simp ring (omega (arith, simp ring at (mul-le-mul-right A h), l))) p
+growth-cancel : (G X Y A B : ℕ) → 0 < X → G * X ≤ Y → Y * A ≤ X * B → G * A ≤ B
+growth-cancel G X Y A B p h l = le-of-mul-le-mul-left {k = X} (simp ring (omega (arith, simp ring at (mul-le-mul-right A h), l))) p
 
--- d is so large a part of c, at least one of q * n, that the power n * m of c + d is 2^g times that of c. The premise about q is a
--- certificate (proofs/Certificate.antt of the crate logarithm), or computed.
-pub gap :
+-- Where d is at least one part in q * n of c, the power n * m of c + d is at least 2^g times that of c. The premise about q is a certificate
+-- (proofs/Certificate.antt of the crate logarithm), or computed.
+pub power-growth :
     (g q n m c d : ℕ) → 0 < q → 2 ^ g * q ^ m ≤ (q + 1) ^ m → 0 < c → c ≤ q * (n * d) → 2 ^ g * c ^ (n * m) ≤ (c + d) ^ (n * m)
-gap g q n m c d p f z h =
+power-growth g q n m c d p f z h =
     subst₂ (λ (x y : ℕ). 2 ^ g * x ≤ y) (sym (pow-mul c n m)) (sym (pow-mul (c + d) n m))
-    (gap-cancel (2 ^ g) (q ^ m) ((q + 1) ^ m) ((c ^ n) ^ m) (((c + d) ^ n) ^ m) (one-le-pow m q p) f
-    (subst₂ _≤_ (mul-pow (q + 1) (c ^ n) m) (mul-pow q ((c + d) ^ n) m) (pow-le-pow-left (gap-step q c d n z h) m)))
+    (growth-cancel (2 ^ g) (q ^ m) ((q + 1) ^ m) ((c ^ n) ^ m) (((c + d) ^ n) ^ m) (one-le-pow m q p) f
+    (subst₂ _≤_ (mul-pow (q + 1) (c ^ n) m) (mul-pow q ((c + d) ^ n) m) (pow-le-pow-left (one-power-grows q c d n z h) m)))

@@ -1,1 +1,1 @@
-// No code: this crate holds laws that more than one crate cites. They are in proofs/.
+// No code: laws of arithmetic, orders, powers and differences (proofs/), and numbers that several crates name (specs/).

@@ -1,8 +1,8 @@
 -- The power (num / den)^(2^k) between two powers of two, by a test that the checker computes: k squarings of a mantissa that is rounded
--- after each. Assumes nothing.
+-- after each.
 --
 -- The tests are `atLeast k s num den t` and `atMost k s num den t`; the laws `least-power` and `most-power` say what they show, and
--- `whole-least` and `whole-most` say it for a whole number. The last section certifies log2 10, as an example.
+-- `whole-least` and `whole-most` say it for a whole number.
 -- The exponent is any name for 2^k, and s is the whole part of log2 (num / den). A wrong s, or a t too near the true logarithm for
 -- mantissas of 128 bits, makes the test fail and shows nothing false.
 use mathlib.Core.Path.{_≡_, sym, ap, _∙_, subst}
@@ -14,7 +14,6 @@ use lib.Dec.{T, ltb, leb, leb→le, ltb→lt, lit<}
 use lib.Pow.{pow-add, pow-pos, pow-mono}
 use Rattle.laws.proofs.Computed.{and-left, and-right}
 use Rattle.laws.proofs.Powers.{ring, pow-twice, pow-one, one-pow}
-use Rattle.logarithm.specs.Scale.{scale, scale-is}
 
 -- ---- the tests
 
@@ -45,14 +44,14 @@ atMost k s num den t = most k guard (num * guard / (2 ^ s * den) + 1) s t
 -- ---- what they show
 
 -- One squaring, with every power a variable: F is 2^e, Y is den^n, X is num^n, d is 1 or 2.
-least-step : (a b d F Y X N : ℕ) → 0 < N → b * (d * N) ≤ a * a → a * F * Y ≤ X * N → b * (d * (F * F)) * (Y * Y) ≤ X * X * N
-least-step a b d F Y X N p h l =
+square-below : (a b d F Y X N : ℕ) → 0 < N → b * (d * N) ≤ a * a → a * F * Y ≤ X * N → b * (d * (F * F)) * (Y * Y) ≤ X * X * N
+square-below a b d F Y X N p h l =
     le-of-mul-le-mul-right {k = N}
     (simp ring (omega (arith, simp ring at (mul-le-mul-right (F * F * (Y * Y)) h), simp ring at (mul-le-mul l l))))
     p
 
-most-step : (a b d F Y X N : ℕ) → 0 < N → a * a ≤ b * (d * N) → X * N ≤ a * F * Y → X * X * N ≤ b * (d * (F * F)) * (Y * Y)
-most-step a b d F Y X N p h l =
+square-above : (a b d F Y X N : ℕ) → 0 < N → a * a ≤ b * (d * N) → X * N ≤ a * F * Y → X * X * N ≤ b * (d * (F * F)) * (Y * Y)
+square-above a b d F Y X N p h l =
     le-of-mul-le-mul-right {k = N}
     (simp ring (omega (arith, simp ring at (mul-le-mul-right (F * F * (Y * Y)) h), simp ring at (mul-le-mul l l))))
     p
@@ -82,12 +81,12 @@ module _ (N num den : ℕ) (p : 0 < N) where
   below-next : (d n a e e' : ℕ) → 2 ^ e' ≡ d * (2 ^ e * 2 ^ e) → Below n a e → Below (n * 2) (a * a / (d * N)) e'
   below-next d n a e e' g l =
       rw (g, pow-twice num n, pow-twice den n)
-      (least-step a (a * a / (d * N)) d (2 ^ e) (den ^ n) (num ^ n) N p (div-mul-le-self (a * a) (d * N)) l)
+      (square-below a (a * a / (d * N)) d (2 ^ e) (den ^ n) (num ^ n) N p (div-mul-le-self (a * a) (d * N)) l)
 
   above-next : (d n a e e' : ℕ) → 0 < d → 2 ^ e' ≡ d * (2 ^ e * 2 ^ e) → Above n a e → Above (n * 2) (a * a / (d * N) + 1) e'
   above-next d n a e e' q g l =
       rw (g, pow-twice num n, pow-twice den n)
-      (most-step a (a * a / (d * N) + 1) d (2 ^ e) (den ^ n) (num ^ n) N p
+      (square-above a (a * a / (d * N) + 1) d (2 ^ e) (den ^ n) (num ^ n) N p
       (let h : a * a < a * a / (d * N) * (d * N) + d * N = lt-div-mul-add (mul-pos q p) in omega (arith, add-mul (a * a / (d * N)) 1 (d * N))) l)
 
   below-end : (n a e t : ℕ) → N ≤ a → t ≤ e → Below n a e → 2 ^ t * den ^ n ≤ num ^ n
@@ -159,16 +158,3 @@ whole-least k s x t E e h = subst (λ (y : ℕ). y ≤ x ^ E) (ap (λ (y : ℕ).
 pub whole-most : (k s x t E : ℕ) → E ≡ 2 ^ k → T (atMost k s x 1 t) → x ^ E ≤ 2 ^ t
 whole-most k s x t E e h =
     subst (λ (y : ℕ). x ^ E ≤ y) (ap (λ (y : ℕ). 2 ^ t * y) (one-pow E) ∙ mul-one (2 ^ t)) (most-power k s x 1 t E (omega arith) e h)
-
--- ---- an example: log2 10, in units of 1 / E, is between 228281160435 and 228281160436; its whole part is 3
-
-ten-least : T (atLeast 36 3 10 1 228281160435)
-unfolding atLeast least
-ten-least = tt
-
-ten-most : T (atMost 36 3 10 1 228281160436)
-unfolding atMost most
-ten-most = tt
-
-log2-ten : (2 ^ 228281160435 ≤ 10 ^ scale) × (10 ^ scale ≤ 2 ^ 228281160436)
-log2-ten = (whole-least 36 3 10 228281160435 scale scale-is ten-least, whole-most 36 3 10 228281160436 scale scale-is ten-most)

@@ -1,12 +1,11 @@
--- From enclosed logarithms to orders of powers, and back, over any scale S and any exponents p and q. Assumes nothing.
+-- From enclosed logarithms to orders of powers, and back, over any scale S and any exponents p and q.
 -- An upper logarithm of x is an A with x^S ≤ 2^A, a lower one is an a with 2^a ≤ x^S; take 1 and 0 where a factor is missing.
-use mathlib.Core.Path.{_≡_, sym, ap, ap₂, _∙_, subst₂}
-use Prim.Native.Nat.{ℕ, _+_, _*_, _-_, _^_, _≤_, _<_}
-use native.Mathlib.Nat.{le-trans, le-of-eq, one-le-pow, pow-le-pow-left, pow-lt-pow-left, mul-le-mul, mul-le-mul-left, mul-lt-mul-of-pos-left, lt-of-mul-lt-mul-right, mul-pos}
+use mathlib.Core.Path.{_≡_, sym, ap₂, _∙_}
+use Prim.Native.Nat.{ℕ, _+_, _*_, _^_, _≤_, _<_}
+use native.Mathlib.Nat.{le-trans, le-of-eq, pow-le-pow-left, mul-le-mul}
 use native.Mathlib.Omega.{arith}
 use lib.Pow.{pow-add, pow-mono}
-use Rattle.laws.proofs.Order.{by-order}
-use Rattle.laws.proofs.Powers.{ring, mul-pow, pow-mul, pow-swap, one-pow, root, exponents-le}
+use Rattle.laws.proofs.Powers.{mul-pow, pow-mul, pow-swap, one-pow, root, exponents-le}
 use Rattle.logarithm.specs.Scale.{scale, scale-is}
 
 raised : (x y p q S : ℕ) → (x ^ p * y ^ q) ^ S ≡ (x ^ S) ^ p * (y ^ S) ^ q
@@ -51,31 +50,3 @@ one-above S = le-of-eq (one-pow S)
 
 pub one-below : (S : ℕ) → 2 ^ 0 ≤ 1 ^ S
 one-below S = le-of-eq (sym (one-pow S))
-
--- a greater number's upper logarithm is not below a smaller one's lower logarithm
-pub logs-in-order : (S x y a B : ℕ) → x ≤ y → 2 ^ a ≤ x ^ S → y ^ S ≤ 2 ^ B → a ≤ B
-logs-in-order S x y a B h hx hy = exponents-le a B (le-trans hx (le-trans (pow-le-pow-left h S) hy))
-
--- The order of exponents from orders of powers, used for the order of two answers: the base y / x is at least 1, and v is greater than u. If
--- (y / x)^p * v^q ≤ h^q and h^q ≤ (y / x)^P * u^q then p < P. In the algebra every power is a variable: A = y^P, B = x^P, a = y^s,
--- b = x^s, where P + s = p.
-exponents-algebra : (A B a b u v h : ℕ) → 0 < b * A → A * a * v ≤ B * b * h → B * h ≤ A * u → u < v → a < b
-exponents-algebra A B a b u v h z i j k =
-    lt-of-mul-lt-mul-right (A * v)
-    (simp ring (omega (arith, simp ring at i, simp ring at (mul-le-mul-left b j), simp ring at (mul-lt-mul-of-pos-left k z))))
-
-module _ (x y u v h p P q : ℕ) (pos : 0 < x) (base : x ≤ y) (some : 0 < q) (greater : u < v)
-    (low : y ^ p * v ^ q ≤ x ^ p * h ^ q) (high : x ^ P * h ^ q ≤ y ^ P * u ^ q) where
-  not-more : (s : ℕ) → P + s ≡ p → ⊥
-  not-more s e =
-      let i : y ^ P * y ^ s * v ^ q ≤ x ^ P * x ^ s * h ^ q =
-      subst₂ (λ (a b : ℕ). a * v ^ q ≤ b * h ^ q) (ap (λ (k : ℕ). y ^ k) (sym e) ∙ pow-add y P s) (ap (λ (k : ℕ). x ^ k) (sym e) ∙ pow-add x P s) low in
-      let l : y ^ s < x ^ s =
-      exponents-algebra (y ^ P) (x ^ P) (y ^ s) (x ^ s) (u ^ q) (v ^ q) (h ^ q)
-      (mul-pos (one-le-pow s x pos) (one-le-pow P y (omega arith))) i high
-      (pow-lt-pow-left greater (λ z. omega arith)) in
-      let m : x ^ s ≤ y ^ s = pow-le-pow-left base s in
-      omega arith
-
-  pub exponents-in-order : p < P
-  exponents-in-order = by-order p P (λ l. l) (λ l. absurd (not-more (p - P) (omega arith)))

@@ -1,5 +1,5 @@
--- One level: a mantissa m times the factor (D - j) / D of its place, rounded down. A computed test of a whole table shows that each level
--- leaves a mantissa in the next one's range, and by which power of two it grew smaller. Assumes nothing.
+-- One level: a mantissa m times the factor (D - j) / D of its slot, rounded down. A computed test of a whole table shows that each level
+-- leaves a mantissa in the next one's range, and by which power of two it grew smaller.
 use mathlib.Core.Path.{_≡_, sym, ap, _∙_}
 use mathlib.Core.Bool.{Bool, _&&_}
 use mathlib.Core.List.{List}
@@ -11,13 +11,13 @@ use Rattle.laws.proofs.Computed.{and-left, and-right, upTo, below}
 use Rattle.laws.proofs.Powers.{raise}
 use Rattle.logarithm.specs.Scale.{scale, scale-is, unit}
 use Rattle.logarithm.specs.Tables.{firstTable, secondTable}
-use Rattle.logarithm.specs.Log2.{packing, firstSpacing, firstDivisor, secondSpacing, secondDivisor, entryAt, entryOf, timesFactor, taken, left}
+use Rattle.logarithm.specs.Log2.{packing, firstSpacing, firstDivisor, secondSpacing, secondDivisor, entryAt, entryOf, timesFactor, levelLog, levelRest, slotCount}
 use Rattle.logarithm.proofs.Certificate.{least, most, atLeast, atMost, least-power, most-power}
 
 -- ---- one entry
 
--- The test of the entry p at place i of a level with divisor D and spacing S: with j = p % packing, m * (D - j) / D stays from unit to
--- below unit + room at each mantissa m of the place, and 2^t ≤ (D / (D - j))^E and (D / (D - j) * (unit + 1) / unit)^E ≤ 2^(t + w)
+-- The test of the entry p at slot i of a level with divisor D and spacing S: with j = p % packing, m * (D - j) / D stays from unit to
+-- below unit + room at each mantissa m of the slot, and 2^t ≤ (D / (D - j))^E and (D / (D - j) * (unit + 1) / unit)^E ≤ 2^(t + w)
 -- hold for t = p / packing. The factor (unit + 1) / unit pays for the rounding of m.
 pub entryTest : ℕ → ℕ → ℕ → ℕ → ℕ → ℕ → Bool
 entryTest D S room w i p =
@@ -60,18 +60,18 @@ entry-of-test D S room w i p h =
 pub testAt : ℕ → ℕ → ℕ → ℕ → List ℕ → ℕ → Bool
 testAt D S room w table i = entryTest D S room w i (entryAt table i)
 
-pub record Certified (D S room w n : ℕ) (table : List ℕ) : Type 0 where
-  pub right : T (upTo (testAt D S room w table) n)
+pub record CertifiedTable (D S room w n : ℕ) (table : List ℕ) : Type 0 where
+  pub tested : T (upTo (testAt D S room w table) n)
 
-entry-at : {D S room w n : ℕ} {table : List ℕ} → Certified D S room w n table → (i : ℕ) → i < n → Entry D S room w i (entryAt table i)
+entry-at : {D S room w n : ℕ} {table : List ℕ} → CertifiedTable D S room w n table → (i : ℕ) → i < n → Entry D S room w i (entryAt table i)
 unfolding testAt
 entry-at {D} {S} {room} {w} {n} {table} c i h =
-    entry-of-test D S room w i (entryAt table i) (below (testAt D S room w table) n (c .right) i h)
+    entry-of-test D S room w i (entryAt table i) (below (testAt D S room w table) n (c .tested) i h)
 
--- ---- one step
+-- ---- one factor
 
 -- m' is m times the factor: smaller by a power between 2^t and 2^(t + w), and in range
-pub record Step (room w m m' t : ℕ) : Type 0 where
+pub record Factored (room w m m' t : ℕ) : Type 0 where
   pub least : unit ≤ m'
   pub most : m' < unit + room
   pub below : 2 ^ t * m' ^ scale ≤ m ^ scale
@@ -123,11 +123,11 @@ rounding-paid m c m' D N h l =
     omega (arith, mul-le-mul-right N g, mul-le-mul-left D l)
 
 module _ (D S room w i m p : ℕ) (e : Entry D S room w i p) (ml : unit + i * S ≤ m) (mh : m < unit + (i + 1) * S) where
-  step-to :
+  factored-to :
       (c m' : ℕ) → c + p % packing ≡ D → unit * D ≤ (unit + i * S) * c → (unit + (i + 1) * S) * c ≤ (unit + room) * D
       → 2 ^ (p / packing) * c ^ scale ≤ D ^ scale → (D * (unit + 1)) ^ scale ≤ 2 ^ (p / packing + w) * (c * unit) ^ scale
-      → 0 < c → m' * D ≤ m * c → m * c < m' * D + D → Step room w m m' (p / packing)
-  step-to c m' ce lo hi cl ch cp rl rh =
+      → 0 < c → m' * D ≤ m * c → m * c < m' * D + D → Factored room w m m' (p / packing)
+  factored-to c m' ce lo hi cl ch cp rl rh =
       let least' : unit ≤ m' =
       (let g : unit * D < suc m' * D = lt-of-le-of-lt (le-trans lo (mul-le-mul-right c ml)) (omega arith) in
       let g2 : unit < suc m' = lt-of-mul-lt-mul-right D g in omega arith) in
@@ -141,53 +141,53 @@ module _ (D S room w i m p : ℕ) (e : Entry D S room w i p) (ml : unit + i * S 
             (raise m (c * unit) m' (D * (unit + 1)) scale (rounding-paid m c m' D unit rh least')) ch;
       }
 
-  step : Step room w m (timesFactor D m p) (p / packing)
-  step =
+  factored : Factored room w m (timesFactor D m p) (p / packing)
+  factored =
       let j : p % packing < D = e .small in
       let r = factor-rounds-down D m p j in
-      step-to (D - p % packing) (timesFactor D m p) (omega arith) (e .lower) (e .upper) (e .least) (e .most) (omega arith) (r .0) (r .1)
+      factored-to (D - p % packing) (timesFactor D m p) (omega arith) (e .lower) (e .upper) (e .least) (e .most) (omega arith) (r .0) (r .1)
 
 -- ---- one level
 
--- the place of m among those that are S apart, and that it is one of n
-pub place : (S m : ℕ) → unit ≤ m → 0 < S → (unit + (m - unit) / S * S ≤ m) × (m < unit + ((m - unit) / S + 1) * S)
-place S m l p =
+-- the slot of m among those that are S apart, and that it is one of n
+pub slot : (S m : ℕ) → unit ≤ m → 0 < S → (unit + (m - unit) / S * S ≤ m) × (m < unit + ((m - unit) / S + 1) * S)
+slot S m l p =
     let a : (m - unit) / S * S ≤ m - unit = div-mul-le-self (m - unit) S in
     let b : m - unit < (m - unit) / S * S + S = lt-div-mul-add p in
     (omega arith, omega (arith, add-mul ((m - unit) / S) 1 S))
 
-pub place-in : (S n m : ℕ) → 0 < S → unit ≤ m → m < unit + n * S → (m - unit) / S < n
-place-in S n m p l h = div-lt-iff-lt-mul p .1 (omega arith)
+pub slot-in : (S n m : ℕ) → 0 < S → unit ≤ m → m < unit + n * S → (m - unit) / S < n
+slot-in S n m p l h = div-lt-iff-lt-mul p .1 (omega arith)
 
 pub level :
-    {D S room w n : ℕ} {table : List ℕ} → Certified D S room w n table → (m : ℕ) → 0 < S → unit ≤ m → m < unit + n * S
-    → Step room w m (left table S D m) (taken table S m)
-unfolding left taken entryOf
+    {D S room w n : ℕ} {table : List ℕ} → CertifiedTable D S room w n table → (m : ℕ) → 0 < S → unit ≤ m → m < unit + n * S
+    → Factored room w m (levelRest table S D m) (levelLog table S m)
+unfolding levelRest levelLog entryOf
 level {D} {S} {room} {w} {n} {table} c m p lo hi =
-    let r = place S m lo p in
-    step D S room w ((m - unit) / S) m (entryAt table ((m - unit) / S)) (entry-at c ((m - unit) / S) (place-in S n m p lo hi)) (r .0) (r .1)
+    let r = slot S m lo p in
+    factored D S room w ((m - unit) / S) m (entryAt table ((m - unit) / S)) (entry-at c ((m - unit) / S) (slot-in S n m p lo hi)) (r .0) (r .1)
 
 pub small-at :
-    {D S room w n : ℕ} {table : List ℕ} → Certified D S room w n table → (i : ℕ) → i < n → entryAt table i % packing < D
+    {D S room w n : ℕ} {table : List ℕ} → CertifiedTable D S room w n table → (i : ℕ) → i < n → entryAt table i % packing < D
 small-at c i h = entry-at c i h .small
 
 -- ---- the two tables
 
--- what the first level leaves fits the second level's 256 places; t is rounded down, and lowered by at most 5
+-- what the first level leaves fits the second level's 256 slots; t is rounded down, and lowered by at most 5
 abbrev pub firstWidth : ℕ
 firstWidth = 6
 
 abbrev pub secondWidth : ℕ
 secondWidth = 1
 
--- what the second level leaves is below unit + lineRoom
-abbrev pub lineRoom : ℕ
-lineRoom = 4328391680
+-- what the second level leaves is below unit + tailRoom
+abbrev pub tailRoom : ℕ
+tailRoom = 4328391680
 
-pub first-certified : Certified firstDivisor firstSpacing (256 * secondSpacing) firstWidth 256 firstTable
+pub first-certified : CertifiedTable firstDivisor firstSpacing (slotCount * secondSpacing) firstWidth slotCount firstTable
 unfolding firstTable testAt entryAt entryTest atLeast atMost least most
-first-certified = record { right = tt }
+first-certified = record { tested = tt }
 
-pub second-certified : Certified secondDivisor secondSpacing lineRoom secondWidth 256 secondTable
+pub second-certified : CertifiedTable secondDivisor secondSpacing tailRoom secondWidth slotCount secondTable
 unfolding secondTable testAt entryAt entryTest atLeast atMost least most
-second-certified = record { right = tt }
+second-certified = record { tested = tt }

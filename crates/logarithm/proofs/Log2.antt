@@ -1,5 +1,4 @@
--- `log2Of` encloses the logarithm: `log2-enclosed`. Then what the proofs of the code cite, and how to compute the logarithm of a literal.
--- Assumes nothing.
+-- `log2Of` encloses the logarithm: `log2-enclosed`. Then what the proofs of the code cite.
 use mathlib.Core.Path.{_≡_, refl, sym, ap, _∙_, subst}
 use mathlib.Core.List.{List}
 use Prim.Native.Nat.{ℕ, zero, suc, _+_, _*_, _-_, _/_, _%_, _^_, _≤_, _<_}
@@ -11,11 +10,12 @@ use Rattle.laws.proofs.Order.{by-order}
 use Rattle.laws.proofs.Powers.{mul-pow, pow-mul}
 use Rattle.logarithm.specs.Scale.{scale, scale-is, scaleNumber, width, unit, bound}
 use Rattle.logarithm.specs.Tables.{firstTable, secondTable}
-use Rattle.logarithm.specs.Log2.{packing, firstSpacing, firstDivisor, secondSpacing, secondDivisor, slope, slopeDivisor, zerosOf, mantissa, entryAt, entryOf, timesFactor, taken, left, lineAbove, restOf, fractionOf, log2Of, Enclosed, InRange, Reduces}
-use Rattle.logarithm.proofs.Level.{Certified, Step, level, firstWidth, secondWidth, lineRoom, first-certified, second-certified}
-use Rattle.logarithm.proofs.Line.{line, lineWidth}
+use Rattle.logarithm.specs.Log2.{packing, firstSpacing, firstDivisor, secondSpacing, secondDivisor, slope, slopeDivisor, zerosOf, mantissa, entryAt, entryOf, timesFactor, levelLog, levelRest, tailOf, restOf, fractionOf, log2Of, Enclosed, Reduces, slotCount, mantissaZeros, oneZeros}
+use Rattle.logarithm.specs.Preconditions.{InRange}
+use Rattle.logarithm.proofs.Level.{CertifiedTable, Factored, level, firstWidth, secondWidth, tailRoom, first-certified, second-certified}
+use Rattle.logarithm.proofs.Tail.{tail, tailWidth}
 
--- ---- the mantissa: two levels and the line
+-- ---- the mantissa: two levels and the tail
 
 -- f is the logarithm of m / unit, too low by at most w
 record Fraction (m f w : ℕ) : Type 0 where
@@ -29,7 +29,7 @@ join-above : (t u A B C : ℕ) → A ≤ 2 ^ t * B → B ≤ 2 ^ u * C → A ≤
 join-above t u A B C h l = rw (pow-add 2 t u) (omega (arith, mul-le-mul-left (2 ^ t) l))
 
 -- a level before a fraction
-prepend : {room v m a t : ℕ} → Step room v m a t → (f w : ℕ) → Fraction a f w → Fraction m (t + f) (v + w)
+prepend : {room v m a t : ℕ} → Factored room v m a t → (f w : ℕ) → Fraction a f w → Fraction m (t + f) (v + w)
 prepend {v = v} {m = m} {a = a} {t = t} s f w r =
     record {
       below = join-below t f (m ^ scale) (a ^ scale) (unit ^ scale) (s .below) (r .below);
@@ -39,40 +39,40 @@ prepend {v = v} {m = m} {a = a} {t = t} s f w r =
     }
 
 -- what each level leaves of a mantissa
-pub first-step :
+pub first-level :
     (m : ℕ) → unit ≤ m → m < 2 * unit
-    → Step (256 * secondSpacing) firstWidth m (left firstTable firstSpacing firstDivisor m) (taken firstTable firstSpacing m)
-first-step m l h = level first-certified m (omega arith) l (omega arith)
+    → Factored (slotCount * secondSpacing) firstWidth m (levelRest firstTable firstSpacing firstDivisor m) (levelLog firstTable firstSpacing m)
+first-level m l h = level first-certified m (omega arith) l (omega arith)
 
-pub second-step :
-    (m : ℕ) → unit ≤ m → m < unit + 256 * secondSpacing
-    → Step lineRoom secondWidth m (left secondTable secondSpacing secondDivisor m) (taken secondTable secondSpacing m)
-second-step m l h = level second-certified m (omega arith) l h
+pub second-level :
+    (m : ℕ) → unit ≤ m → m < unit + slotCount * secondSpacing
+    → Factored tailRoom secondWidth m (levelRest secondTable secondSpacing secondDivisor m) (levelLog secondTable secondSpacing m)
+second-level m l h = level second-certified m (omega arith) l h
 
-rest-law : (m : ℕ) → unit ≤ m → m < unit + 256 * secondSpacing → Fraction m (restOf m) (secondWidth + lineWidth)
+rest-law : (m : ℕ) → unit ≤ m → m < unit + slotCount * secondSpacing → Fraction m (restOf m) (secondWidth + tailWidth)
 unfolding restOf
 rest-law m l h =
-    let s = second-step m l h in
-    let r = line (left secondTable secondSpacing secondDivisor m) (s .least) (s .most) in
-    prepend s (lineAbove (left secondTable secondSpacing secondDivisor m)) lineWidth (record { below = r .below; above = r .above })
+    let s = second-level m l h in
+    let r = tail (levelRest secondTable secondSpacing secondDivisor m) (s .least) (s .most) in
+    prepend s (tailOf (levelRest secondTable secondSpacing secondDivisor m)) tailWidth (record { below = r .below; above = r .above })
 
 -- what each part may be too low by adds up to the width
-widths : firstWidth + (secondWidth + lineWidth) ≡ width
+widths : firstWidth + (secondWidth + tailWidth) ≡ width
 widths = refl
 
 fraction-law : (m : ℕ) → unit ≤ m → m < 2 * unit → Fraction m (fractionOf m) width
 unfolding fractionOf
 fraction-law m l h =
-    let s = first-step m l h in
-    let a : ℕ = left firstTable firstSpacing firstDivisor m in
-    subst (λ (w : ℕ). Fraction m (taken firstTable firstSpacing m + restOf a) w) widths
-    (prepend s (restOf a) (secondWidth + lineWidth) (rest-law a (s .least) (s .most)))
+    let s = first-level m l h in
+    let a : ℕ = levelRest firstTable firstSpacing firstDivisor m in
+    subst (λ (w : ℕ). Fraction m (levelLog firstTable firstSpacing m + restOf a) w) widths
+    (prepend s (restOf a) (secondWidth + tailWidth) (rest-law a (s .least) (s .most)))
 
 -- ---- the number
 
 -- j is the whole part of the logarithm of x: the length of x / 2 in bits
 pub record Whole (x j : ℕ) : Type 0 where
-  pub zeros : zerosOf x + j ≡ 64
+  pub zeros : zerosOf x + j ≡ oneZeros
   pub least : 2 ^ j ≤ x
   pub most : x < 2 ^ suc j
 
@@ -88,8 +88,8 @@ whole-part x r =
 
 -- the zeros of x / 2, and x shifted up to 49 bits
 pub record Normal (x : ℕ) : Type 0 where
-  pub few : 16 ≤ zerosOf x
-  pub many : zerosOf x ≤ 64
+  pub few : mantissaZeros ≤ zerosOf x
+  pub many : zerosOf x ≤ oneZeros
   pub least : unit ≤ mantissa x
   pub most : mantissa x < 2 * unit
 
@@ -101,13 +101,13 @@ normal x r =
     let z : ℕ = zerosOf x in
     let w : Whole x j = t .1 in
     let k : j < 49 = by-order j 49 (λ q. q) (λ q. let p : 2 ^ 49 ≤ 2 ^ j = pow-mono q in absurd (omega (arith, w .least, r .most))) in
-    let s : j + (z - 16) ≡ 48 = omega (arith, w .zeros) in
-    let s' : suc j + (z - 16) ≡ 49 = omega (arith, w .zeros) in
+    let s : j + (z - mantissaZeros) ≡ 48 = omega (arith, w .zeros) in
+    let s' : suc j + (z - mantissaZeros) ≡ 49 = omega (arith, w .zeros) in
     record {
       few = omega (arith, w .zeros);
       many = omega (arith, w .zeros);
-      least = subst (λ (y : ℕ). y ≤ x * 2 ^ (z - 16)) (sym (pow-add 2 j (z - 16)) ∙ ap (λ (y : ℕ). 2 ^ y) s) (mul-le-mul-right (2 ^ (z - 16)) (w .least));
-      most = subst (λ (y : ℕ). x * 2 ^ (z - 16) < y) (sym (pow-add 2 (suc j) (z - 16)) ∙ ap (λ (y : ℕ). 2 ^ y) s') (mul-lt-mul-of-pos-right (w .most) (pow-pos (z - 16)));
+      least = subst (λ (y : ℕ). y ≤ x * 2 ^ (z - mantissaZeros)) (sym (pow-add 2 j (z - mantissaZeros)) ∙ ap (λ (y : ℕ). 2 ^ y) s) (mul-le-mul-right (2 ^ (z - mantissaZeros)) (w .least));
+      most = subst (λ (y : ℕ). x * 2 ^ (z - mantissaZeros) < y) (sym (pow-add 2 (suc j) (z - mantissaZeros)) ∙ ap (λ (y : ℕ). 2 ^ y) s') (mul-lt-mul-of-pos-right (w .most) (pow-pos (z - mantissaZeros)));
     }
 
 -- from the mantissa m = x * 2^s back to x, where s + k = 48
@@ -147,7 +147,7 @@ unfolding log2Of mantissa
 log2-enclosed x r =
     let n = normal x r in
     let h =
-    shift-back x (zerosOf x - 16) (64 - zerosOf x) (omega (arith, n .few, n .many)) (fractionOf (mantissa x))
+    shift-back x (zerosOf x - mantissaZeros) (oneZeros - zerosOf x) (omega (arith, n .few, n .many)) (fractionOf (mantissa x))
     (fraction-law (mantissa x) (n .least) (n .most)) in
     record { value = refl; below = h .0; above = h .1; small = below-bound x (log2Of x) (r .most) (h .0) }
 
@@ -156,12 +156,12 @@ log2-enclosed x r =
 pub reduces :
     (table : List ℕ) (S D m p t : ℕ) → p ≡ entryAt table ((m - unit) / S) → t ≡ p / packing → t < 2 * unit
     → Reduces table S D m (timesFactor D m p) t
-unfolding left taken entryOf
+unfolding levelRest levelLog entryOf
 reduces table S D m p t e q h = record { mantissa = ap (timesFactor D m) e; log = q ∙ ap (λ (x : ℕ). x / packing) e; small = h }
 
 -- a level's answer is in the next one's range
 pub reduced-range :
-    {D S room w n m a t : ℕ} {table : List ℕ} → Certified D S room w n table → Reduces table S D m a t → 0 < S → unit ≤ m → m < unit + n * S
+    {D S room w n m a t : ℕ} {table : List ℕ} → CertifiedTable D S room w n table → Reduces table S D m a t → 0 < S → unit ≤ m → m < unit + n * S
     → (unit ≤ a) × (a < unit + room)
 reduced-range {m = m} c r p lo hi =
     let v = level c m p lo hi in
@@ -171,19 +171,13 @@ reduced-range {m = m} c r p lo hi =
 pub fraction-computed :
     (m a b k l : ℕ) → Reduces firstTable firstSpacing firstDivisor m a k → Reduces secondTable secondSpacing secondDivisor a b l
     → k + (l + (b - unit) * slope / slopeDivisor) ≡ fractionOf m
-unfolding fractionOf restOf lineAbove
+unfolding fractionOf restOf tailOf
 fraction-computed m a b k l r s = rw (r .log, s .log, s .mantissa, r .mantissa)
 
-pub shift-fits : (x : ℕ) → InRange x → (x * 2 ^ (leadingZeros 64 (x / 2) - 16)) % 2 ^ 64 ≡ mantissa x
+pub shift-fits : (x : ℕ) → InRange x → (x * 2 ^ (leadingZeros 64 (x / 2) - mantissaZeros)) % 2 ^ 64 ≡ mantissa x
 unfolding mantissa zerosOf
 shift-fits x r = let n = normal x r in mod-eq-of-lt (omega (arith, n .most))
 
-pub log2-computed : (x f : ℕ) → f ≡ fractionOf (mantissa x) → f + (64 - leadingZeros 64 (x / 2)) * scaleNumber ≡ log2Of x
+pub log2-computed : (x f : ℕ) → f ≡ fractionOf (mantissa x) → f + (oneZeros - leadingZeros 64 (x / 2)) * scaleNumber ≡ log2Of x
 unfolding log2Of zerosOf
-log2-computed x f e = ap (λ (y : ℕ). y + (64 - leadingZeros 64 (x / 2)) * scaleNumber) e
-
--- ---- an example: the logarithm of a literal is computed
-
-log2-of-thousand : log2Of 1000 ≡ 684843481305
-unfolding log2Of fractionOf restOf lineAbove left taken entryOf entryAt timesFactor mantissa zerosOf leadingZeros firstTable secondTable
-log2-of-thousand = refl
+log2-computed x f e = ap (λ (y : ℕ). y + (oneZeros - leadingZeros 64 (x / 2)) * scaleNumber) e

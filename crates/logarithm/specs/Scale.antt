@@ -1,6 +1,6 @@
 -- The numbers that the promise about a logarithm is made of.
 use mathlib.Core.Path.{_≡_, refl}
-use Prim.Native.Nat.{ℕ, _^_}
+use Prim.Native.Nat.{ℕ, _*_, _^_}
 
 -- E: a logarithm is a count of units of 1 / E, so that r stands for r / E. The name is shut: it unfolds nowhere outside this module, because a
 -- check that computes a power to E never ends. A law is stated over any exponent and used at `scale`; where a goal is linear in it,
@@ -26,4 +26,14 @@ unit = 281474976710656
 
 -- each logarithm is below this: 49 * E, since each number is below 2^49
 abbrev pub bound : ℕ
-bound = 3367254360064
+bound = 49 * scaleNumber
+
+-- the logarithms to the base 2 of 10, 1000 and 10^7, in units of 1 / E and rounded down, as code holds them: each is at most 1 too low
+abbrev pub log10 : ℕ
+log10 = 228281160435
+
+abbrev pub log1000 : ℕ
+log1000 = 684843481305
+
+abbrev pub log10000000 : ℕ
+log10000000 = 1597968123046

@@ -4,17 +4,17 @@
 // 20 / E. It never falls as x rises (proofs/Rise.antt). There is no loop.
 //
 // 1. x is shifted up to a mantissa m of 49 bits, UNIT <= m < 2 * UNIT; the shift is the whole part of the logarithm.
-// 2. First level: the place of m among 256 places, FIRST_SPACING apart, gives a factor (D - j) / D, D = FIRST_DIVISOR, and
+// 2. First level: the slot of m among 256 slots, FIRST_SPACING apart, gives a factor (D - j) / D, D = FIRST_DIVISOR, and
 //    the logarithm of D / (D - j). m times the factor, rounded down, is at most FIRST_SPACING above UNIT.
-// 3. Second level: the same with 256 places of SECOND_SPACING and D = SECOND_DIVISOR. What is left is below UNIT + room,
+// 3. Second level: the same with 256 slots of SECOND_SPACING and D = SECOND_DIVISOR. What is left is below UNIT + room,
 //    room = 4328391680.
-// 4. The rest d over UNIT counts d * SLOPE / SLOPE_DIVISOR: a straight line at or below the curve.
+// 4. The tail: the rest d over UNIT counts d * SLOPE / SLOPE_DIVISOR: a straight line at or below the curve.
 //
-// The width 20: at most 6 from the first table (t is rounded down, and lowered by at most 5 so that nothing falls from one place to the
-// next), 1 from the second table, 13 from the line (12 where the line is farthest from the curve, 1 for rounding).
+// The width 20: at most 6 from the first table (t is rounded down, and lowered by at most 5 so that nothing falls from one slot to the
+// next), 1 from the second table, 13 from the tail (12 where the tail is farthest from the curve, 1 for rounding).
 // Rounding m down costs less than 1/1000 and is part of the 6 and the 1.
 //
-// The numbers: the tables are written by tools/log-tables, which explains each entry; the spacings are 2^40 and 2^32, so that 256 places
+// The numbers: the tables are written by tools/log-tables, which explains each entry; the spacings are 2^40 and 2^32, so that 256 slots
 // fill the mantissas of each level; the divisors are 2^16 and 2^23, the greatest whose j stays below PACKING and m * j below 2^64;
 // SLOPE is log2((M + 1) / M) * 2^76 rounded down, M = UNIT + room, the curve's slope at its far end, where it is least
 // (tools/log-tables --constants). Every divisor is a power of two, so no division is left in the machine code.
@@ -22,9 +22,11 @@ mod tables;
 
 ghost use mathlib.Core.Path.{_≡_};
 ghost use Prim.Native.Nat.{_+_, _*_, _-_, _/_, _≤_, _<_};
+ghost use Rattle.laws.specs.Bits.{span32};
 ghost use Rattle.logarithm.specs.Scale.{unit};
 ghost use Rattle.logarithm.specs.Tables.{firstTable, secondTable};
-ghost use Rattle.logarithm.specs.Log2.{Enclosed, InRange, Lent, Reduces, entryAt, fractionOf, halfSpan, packing};
+ghost use Rattle.logarithm.specs.Log2.{Enclosed, Reduces, entryAt, fractionOf, packing, slotCount};
+ghost use Rattle.logarithm.specs.Preconditions.{InRange, LentLogarithms};
 use tables::FIRST;
 use tables::SECOND;
 
@@ -38,19 +40,22 @@ const SCALE: u64 = 68719476736;
 // numbers of 64 bits one at a time.
 const PACKING: u64 = 32768;
 
-const HALF_SPAN: u64 = 4294967296;
+const SPAN_32: u64 = 4294967296;
 
-// The first level: places 2^40 apart, factors over 2^16.
+// How many numbers a table has: 256 entries of two.
+pub const LOG_TABLE_SIZE: usize = 512;
+
+// The first level: slots 2^40 apart, factors over 2^16.
 const FIRST_SPACING: u64 = 1099511627776;
 
 const FIRST_DIVISOR: u64 = 65536;
 
-// The second level: places 2^32 apart, factors over 2^23.
+// The second level: slots 2^32 apart, factors over 2^23.
 const SECOND_SPACING: u64 = 4294967296;
 
 const SECOND_DIVISOR: u64 = 8388608;
 
-// The line: d over UNIT counts d * SLOPE / 2^40.
+// The tail: d over UNIT counts d * SLOPE / 2^40.
 const SLOPE: u64 = 387264545;
 
 const SLOPE_DIVISOR: u64 = 1099511627776;
@@ -60,6 +65,16 @@ const MANTISSA_ZEROS: u64 = 16;
 
 const ONE_ZEROS: u64 = 64;
 
+// How far above its value a logarithm may lie, in units of 1 / E.
+pub const WIDTH: u64 = 20;
+
+// The logarithms of 10, 1000 and 10^7, rounded down, for crates that compare with them. Each is certified in proofs/Constants.antt.
+pub const LOG_10: u64 = 228_281_160_435;
+
+pub const LOG_1000: u64 = 684_843_481_305;
+
+pub const LOG_10_7: u64 = 1_597_968_123_046;
+
 // What a level leaves of a mantissa, and the logarithm of the factor that it took out.
 struct Reduced {
     mantissa: u64,
@@ -67,18 +82,18 @@ struct Reduced {
 }
 
 // A number of 32 bits as one of 64. A parameter is known to fit its type, which a read through a lent array is not.
-fn wide(x: u32) -> u64
-    ensures { λ r. ⌜ (r ≡ x) × (r < halfSpan) ⌝ }
+pub fn wide(x: u32) -> u64
+    ensures { λ r. ⌜ (r ≡ x) × (r < span32) ⌝ }
 {
     x as u64
 }
 
 // Entry i of a table, from its two halves.
-fn entry_at(table: &[u32; 512], i: usize) -> u64
-    requires { ⌜ i < 256 ⌝ }
+fn entry_at(table: &[u32; LOG_TABLE_SIZE], i: usize) -> u64
+    requires { ⌜ i < slotCount ⌝ }
     ensures { λ r. ⌜ r ≡ entryAt (now (table .entry)) i ⌝ }
 {
-    wide(table[2 * i]) + HALF_SPAN * wide(table[2 * i + 1])
+    wide(table[2 * i]) + SPAN_32 * wide(table[2 * i + 1])
 }
 
 // The logarithm in an entry.
@@ -88,9 +103,9 @@ fn log_in(entry: u64) -> u64
     entry / PACKING
 }
 
-// One level: m times the factor over d that the table has for its place, rounded down. Places are s apart.
-fn reduce(table: &[u32; 512], m: u64, s: u64, d: u64) -> Reduced
-    requires { ⌜ (unit ≤ m) × (m < 2 * unit) × (0 < s) × (packing ≤ d) × (d ≤ unit) × ((m - unit) / s < 256) ⌝ }
+// One level: m times the factor over d that the table has for its slot, rounded down. Slots are s apart.
+fn reduce(table: &[u32; LOG_TABLE_SIZE], m: u64, s: u64, d: u64) -> Reduced
+    requires { ⌜ (unit ≤ m) × (m < 2 * unit) × (0 < s) × (packing ≤ d) × (d ≤ unit) × ((m - unit) / s < slotCount) ⌝ }
     ensures { λ r. ⌜ Reduces (now (table .entry)) s d m (r .mantissa) (r .log) ⌝ }
 {
     let p = entry_at(table, ((m - UNIT) / s) as usize);
@@ -102,8 +117,8 @@ fn reduce(table: &[u32; 512], m: u64, s: u64, d: u64) -> Reduced
 }
 
 // The logarithm of m / UNIT.
-fn fraction(first: &[u32; 512], second: &[u32; 512], m: u64) -> u64
-    requires lent { ⌜ Lent (now first) (now second) ⌝ }
+fn fraction(first: &[u32; LOG_TABLE_SIZE], second: &[u32; LOG_TABLE_SIZE], m: u64) -> u64
+    requires lent { ⌜ LentLogarithms (now first) (now second) ⌝ }
     requires { ⌜ (unit ≤ m) × (m < 2 * unit) ⌝ }
     ensures { λ r. ⌜ (r ≡ fractionOf m) × (r < 16 * unit) ⌝ }
 {
@@ -112,24 +127,24 @@ fn fraction(first: &[u32; 512], second: &[u32; 512], m: u64) -> u64
     a.log + (b.log + (b.mantissa - UNIT) * SLOPE / SLOPE_DIVISOR)
 }
 
-// The tables, to be held as locals and lent to log2_scaled: what these two promise is what its `Lent` asks for, and `search needs` passes
-// it on. A constant array that is read at a place known only when the program runs is copied whole on each call that reads it, so a
+// The tables, to be held as locals and lent to log2_scaled: what these two promise is what its `LentLogarithms` asks for, and `search needs` passes
+// it on. A constant array that is read at an index known only when the program runs is copied whole on each call that reads it, so a
 // caller copies once for many logarithms.
-pub fn first_table() -> [u32; 512]
+pub fn first_table() -> [u32; LOG_TABLE_SIZE]
     ensures { λ r. ⌜ r ≡ firstTable ⌝ }
 {
     FIRST
 }
 
-pub fn second_table() -> [u32; 512]
+pub fn second_table() -> [u32; LOG_TABLE_SIZE]
     ensures { λ r. ⌜ r ≡ secondTable ⌝ }
 {
     SECOND
 }
 
 // The scaled logarithm of x. It asks for what it needs because it is an inner layer, and no operation that a customer reaches.
-pub fn log2_scaled(first: &[u32; 512], second: &[u32; 512], x: u64) -> u64
-    requires lent { ⌜ Lent (now first) (now second) ⌝ }
+pub fn log2_scaled(first: &[u32; LOG_TABLE_SIZE], second: &[u32; LOG_TABLE_SIZE], x: u64) -> u64
+    requires lent { ⌜ LentLogarithms (now first) (now second) ⌝ }
     requires range { ⌜ InRange x ⌝ }
     ensures { λ r. ⌜ Enclosed x r ⌝ }
 {

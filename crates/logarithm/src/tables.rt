@@ -1,5 +1,5 @@
 // Written by tools/log-tables, which explains the origin of each entry; tests/log-tables.sh compares.
-// An entry is t * 32768 + j: the factor of its place is (D - j) / D, and t the logarithm of D / (D - j) in units of 1 / 2^36. It stands as two
+// An entry is t * 32768 + j: the factor of its slot is (D - j) / D, and t the logarithm of D / (D - j) in units of 1 / 2^36. It stands as two
 // numbers of 32 bits, the lower half first.
 
 pub const FIRST: [u32; 512] = [

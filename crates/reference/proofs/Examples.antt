@@ -1,5 +1,4 @@
 -- The starred examples of document 01 about L and H, and the rows that it names, computed from the definitions.
--- Assumes nothing.
 use mathlib.Core.Path.{refl}
 use lib.Dec.{lit<}
 use Rattle.reference.specs.Table1.{table1}

@@ -1,5 +1,8 @@
+-- What is shown of the definitions, in the order in which one file cites another.
 pub mod Asked
 pub mod Places
+pub mod Sources
+pub mod StraightLines
 pub mod Exact
 pub mod Rise
 pub mod Bounds

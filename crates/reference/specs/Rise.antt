@@ -1,14 +1,13 @@
 -- Document 01, 'L and H': "Across the whole table L, H and L − H rise from each row to the next; this is shown, and a row that broke it
 -- would be a misread digit." proofs/Rise.antt shows it for every row but the last by one computed test.
--- Assumes nothing.
 use Prim.Native.Nat.{ℕ, _+_, _-_, _<_}
-use Rattle.reference.specs.Basis.{rowL, rowH}
+use Rattle.reference.specs.Basis.{rowL, rowH, lastRowAt}
 
 pub record RisesFrom (i : ℕ) : Type 0 where
   pub l : rowL i < rowL (i + 1)
   pub h : rowH i < rowH (i + 1)
-  pub gap : rowL i - rowH i < rowL (i + 1) - rowH (i + 1)
+  pub l-less-h : rowL i - rowH i < rowL (i + 1) - rowH (i + 1)
 
--- rows are counted from 0, so row 309 is the last that has a next one
+-- every row but the last has a next one
 pub record TableRises : Type 0 where
-  pub rises : (i : ℕ) → i < 310 → RisesFrom i
+  pub rises : (i : ℕ) → i < lastRowAt → RisesFrom i

@@ -1,6 +1,5 @@
 -- Document 01, 'The two viscosities' and the questions of 'Questions to a pair' that concern one viscosity.
 -- A viscosity is a whole number of thousandths of a mm²/s: y at 100 °C, u at 40 °C.
--- Assumes nothing.
 use Prim.Native.Nat.{ℕ, _*_}
 use mathlib.Core.Bool.{cond}
 use lib.Dec.{ltb}
@@ -34,5 +33,8 @@ abbrev pub asked40 : ℕ → Asked40
 asked40 u = cond (ltb greatest40 u) (at40.Refused 3) (at40.Within (record { thousandths = u }))
 
 -- "One unit here is 10^-10 mm²/s": thousandths of a mm²/s in units, of which a thousandth has 10^7
+abbrev pub unitsPerThousandth : ℕ
+unitsPerThousandth = 10000000
+
 abbrev pub inUnits : ℕ → ℕ
-inUnits thousandths = thousandths * 10000000
+inUnits thousandths = thousandths * unitsPerThousandth

@@ -2,16 +2,20 @@
 // ASTM D2270 with straight lines between its rows, and its two quadratics above 70 mm²/s. Nothing is rounded: viscosities are
 // whole numbers of thousandths of a mm²/s, L and H whole numbers of 10^-10 mm²/s.
 //
-// A constant array that is read at an index not known before is written to the stack on each call. So whoever asks often copies
-// TABLE1 into a local once and lends it; the functions that are lent it say in their `requires` that they were lent that table.
+// One word for one thing: the reference oils are the two oils, and the basis is L and H.
+//
+// A constant array that is read at an index not known before is written to the stack on each call. So whoever asks often holds
+// rows_table() in a local once and lends it; the functions that are lent it say in their `requires` that they were lent that table.
 ghost use mathlib.Core.Path.{_≡_};
-ghost use Prim.Native.Nat.{_<_, _≤_, _+_, _*_, _-_, _/_, _%_};
+ghost use Prim.Native.Nat.{_<_, _≤_, _+_, _*_, _-_};
 ghost use Rattle.reference.specs.Viscosity.{least100, greatest100, least40, greatest40, asked100, asked40, inUnits};
 ghost use Rattle.reference.specs.Table1.{table1};
-ghost use Rattle.reference.specs.Basis.{entry, rowCount, placeOf, lastRow, lineOf, atPlace, quadraticL, quadraticH, L-at, H-at, basisOf, referenceOf};
+ghost use Rattle.reference.specs.Basis.{rowSize, entry, lastRow, wholeWay, placeOf, InTable, straightLine, columnOf, atPlace, byQuadratic, sourceOf, basisValue, basisOf, basisAnswerOf};
 use table1::TABLE1;
 
-pub mod table1;
+mod table1;
+
+// ---- the two viscosities, and the questions about one of them
 
 // A kinematic viscosity at 100 °C, in thousandths of a mm²/s.
 pub struct Kv100 {
@@ -72,13 +76,25 @@ impl Kv40 {
     }
 }
 
-// The viscosity of the table's last row. The quadratics begin above it, and do not meet the table there.
-const LAST_ROW: u32 = 70_000;
+// How many units of 10^-10 mm²/s a thousandth and a millionth of a mm²/s have.
+const UNITS_PER_THOUSANDTH: u64 = 10_000_000;
 
-// The two columns of a row.
-const COLUMN_L: usize = 0;
+const UNITS_PER_MILLIONTH: u64 = 10_000;
 
-const COLUMN_H: usize = 1;
+// Thousandths of a mm²/s in units of 10^-10 mm²/s.
+pub fn in_units(thousandths: u32) -> u64
+    ensures { λ r. ⌜ r ≡ inUnits thousandths ⌝ }
+{
+    (thousandths as u64) * UNITS_PER_THOUSANDTH
+}
+
+// ---- how L and H at a viscosity are found
+
+// Which of the two reference oils: the one whose viscosity at 40 °C is L, or the one whose is H.
+pub enum ReferenceOil {
+    L,
+    H,
+}
 
 // Where a viscosity stands in Table 1: the row at or below it, counted from 0, and how far it is on the way from that row to the
 // next one, in thousandths of the way.
@@ -86,6 +102,18 @@ pub struct Place {
     pub row: usize,
     pub share: u32,
 }
+
+// How L and H are found: at a place of Table 1, or, above its last row, by the quadratics.
+pub enum Source {
+    Table(Place),
+    Quadratics,
+}
+
+// The viscosity of the table's last row. The quadratics begin above it, and do not meet the table there.
+const LAST_ROW: u32 = 70_000;
+
+// The way from a row to the next one, in the thousandths that a share is counted in.
+const WHOLE_WAY: u32 = 1_000;
 
 // The smaller of two numbers.
 fn smaller(a: u32, b: u32) -> u32
@@ -97,9 +125,9 @@ fn smaller(a: u32, b: u32) -> u32
     b
 }
 
-// The row at or below y and the place within its spacing. The rows are 100, 200 or 500 thousandths apart; measured in thousandths of that
-// spacing, y stands 10·y − 20,000, 5·y + 80,000 or 2·y + 170,000 past row 0. The spacing grows with y, so each of the three is the least
-// where it counts, and one division serves all of them.
+// The place of y: the row at or below it, and its share of the way to the next. The rows are 100, 200 or 500 thousandths apart; measured in
+// thousandths of that spacing, y stands 10·y − 20,000, 5·y + 80,000 or 2·y + 170,000 past row 0. The spacing grows with y, so each of the
+// three is the least where it counts, and one division serves all of them.
 fn locate(y: u32) -> Place
     requires { ⌜ (least100 ≤ y) × (y ≤ lastRow) ⌝ }
     ensures { λ r. ⌜ r ≡ placeOf y ⌝ }
@@ -107,42 +135,85 @@ fn locate(y: u32) -> Place
     let from_20 = smaller(5 * y + 80_000, 2 * y + 170_000);
     let along = smaller(10 * y - 20_000, from_20);
     Place {
-        row: (along / 1_000) as usize,
-        share: along % 1_000,
+        row: (along / WHOLE_WAY) as usize,
+        share: along % WHOLE_WAY,
     }
 }
 
-// The straight line from a to b, both in thousandths, at a share of the way: in units of 10^-10 mm²/s.
-fn line(a: u32, b: u32, share: u32) -> u64
-    requires { ⌜ share ≤ 1000 ⌝ }
-    ensures { λ r. ⌜ r ≡ lineOf a b share ⌝ }
+// The source of L and H at y. An inner function, for callers that have asked y's questions.
+pub fn source_of(y: Kv100) -> Source
+    requires { ⌜ least100 ≤ y .thousandths ⌝ }
+    ensures { λ r. ⌜ r ≡ sourceOf (y .thousandths) ⌝ }
 {
-    let rest = 1_000 - share;
-    ((a as u64) * (rest as u64) + (b as u64) * (share as u64)) * 10_000
+    let x = y.thousandths;
+    if x <= LAST_ROW {
+        return Source::Table(locate(x));
+    }
+    Source::Quadratics
 }
 
-// Thousandths of a mm²/s in units of 10^-10 mm²/s, of which a thousandth has 10^7.
-pub fn in_units(thousandths: u32) -> u64
-    ensures { λ r. ⌜ r ≡ inUnits thousandths ⌝ }
+// ---- the value at a place of Table 1
+
+// A row of the table is two entries, L and then H.
+const ROW_COUNT: usize = 311;
+
+const ROW_SIZE: usize = 2;
+
+const COLUMN_L: usize = 0;
+
+const COLUMN_H: usize = 1;
+
+// How many entries the table has: what is lent is an array of so many.
+pub const ROWS_TABLE_SIZE: usize = ROW_SIZE * ROW_COUNT;
+
+// Table 1, to be held as a local and lent.
+pub fn rows_table() -> [u32; ROWS_TABLE_SIZE]
+    ensures { λ r. ⌜ r ≡ table1 ⌝ }
 {
-    (thousandths as u64) * 10_000_000
+    TABLE1
 }
 
-// L or H, by its column, at a place of the table.
-fn at_place(rows: &[u32; 622], column: usize, p: Place) -> u64
+// The entry of a row that is a reference oil's.
+fn column_of(oil: ReferenceOil) -> usize
+    ensures { λ r. ⌜ (r ≡ columnOf oil) × (r < rowSize) ⌝ }
+{
+    match oil {
+        ReferenceOil::L => COLUMN_L,
+        ReferenceOil::H => COLUMN_H,
+    }
+}
+
+// The straight line from a to b, both in thousandths, at a share of the way: in units.
+fn straight_line(a: u32, b: u32, share: u32) -> u64
+    requires { ⌜ share ≤ wholeWay ⌝ }
+    ensures { λ r. ⌜ r ≡ straightLine a b share ⌝ }
+{
+    let rest = WHOLE_WAY - share;
+    ((a as u64) * (rest as u64) + (b as u64) * (share as u64)) * UNITS_PER_MILLIONTH
+}
+
+// L or H at a place of the table.
+fn at_place(rows: &[u32; ROWS_TABLE_SIZE], oil: ReferenceOil, p: Place) -> u64
     requires lent { ⌜ now rows ≡ table1 ⌝ }
-    requires { ⌜ (column < 2) × (p .row < rowCount) × (p .share < 1000) × ((p .share ≡ 0 → ⊥) → p .row + 1 < rowCount) ⌝ }
-    ensures { λ r. ⌜ r ≡ atPlace (entry column) p ⌝ }
+    requires { ⌜ InTable p ⌝ }
+    ensures { λ r. ⌜ r ≡ atPlace (entry (columnOf oil)) p ⌝ }
 {
+    let column = column_of(oil);
     let row = p.row;
     let share = p.share;
     if share == 0 {
-        return in_units(rows[2 * row + column]);
+        return in_units(rows[ROW_SIZE * row + column]);
     }
-    line(rows[2 * row + column], rows[2 * (row + 1) + column], share)
+    straight_line(
+        rows[ROW_SIZE * row + column],
+        rows[ROW_SIZE * (row + 1) + column],
+        share,
+    )
 }
 
-// a·y² + b·y − c
+// ---- the value by the quadratics
+
+// a·y² + b·y − c. The bounds of a and b are above those of both formulas, so that all fits 64 bits.
 fn quadratic(a: u64, b: u64, c: u64, y: u32) -> u64
     requires { ⌜ (a < 10000) × (b < 150000000) × (y ≤ greatest100) × (c ≤ a * (y * y) + b * y) ⌝ }
     ensures { λ r. ⌜ r ≡ a * (y * y) + b * y - c ⌝ }
@@ -151,46 +222,33 @@ fn quadratic(a: u64, b: u64, c: u64, y: u32) -> u64
     a * (x * x) + b * x - c
 }
 
-// L and H at a y above the table.
-fn l_above(y: u32) -> u64
+// L or H at a y above the table: formula 1 or formula 2.
+fn by_quadratic(oil: ReferenceOil, y: u32) -> u64
     requires { ⌜ (lastRow < y) × (y ≤ greatest100) ⌝ }
-    ensures { λ r. ⌜ r ≡ quadraticL y ⌝ }
+    ensures { λ r. ⌜ r ≡ byQuadratic oil y ⌝ }
 {
-    quadratic(8_353, 146_700_000, 2_160_000_000_000, y)
-}
-
-fn h_above(y: u32) -> u64
-    requires { ⌜ (lastRow < y) × (y ≤ greatest100) ⌝ }
-    ensures { λ r. ⌜ r ≡ quadraticH y ⌝ }
-{
-    quadratic(1_684, 118_500_000, 970_000_000_000, y)
-}
-
-// L at y. An inner function, for callers that have asked y's questions and hold the lent table.
-pub fn l_at(rows: &[u32; 622], y: Kv100) -> u64
-    requires lent { ⌜ now rows ≡ table1 ⌝ }
-    requires { ⌜ (least100 ≤ y .thousandths) × (y .thousandths ≤ greatest100) ⌝ }
-    ensures { λ r. ⌜ r ≡ L-at (y .thousandths) ⌝ }
-{
-    let x = y.thousandths;
-    if x <= LAST_ROW {
-        at_place(rows, COLUMN_L, locate(x))
-    } else {
-        l_above(x)
+    match oil {
+        ReferenceOil::L => quadratic(8_353, 146_700_000, 2_160_000_000_000, y),
+        ReferenceOil::H => quadratic(1_684, 118_500_000, 970_000_000_000, y),
     }
 }
 
-// H at y, which procedure B needs without L. An inner function, as l_at.
-pub fn h_at(rows: &[u32; 622], y: Kv100) -> u64
+// ---- L and H
+
+// L or H at y, by y's source. An inner function, for callers that have asked y's questions and hold the lent table.
+pub fn basis_value(
+    rows: &[u32; ROWS_TABLE_SIZE],
+    oil: ReferenceOil,
+    y: Kv100,
+    source: Source,
+) -> u64
     requires lent { ⌜ now rows ≡ table1 ⌝ }
-    requires { ⌜ (least100 ≤ y .thousandths) × (y .thousandths ≤ greatest100) ⌝ }
-    ensures { λ r. ⌜ r ≡ H-at (y .thousandths) ⌝ }
+    requires { ⌜ (least100 ≤ y .thousandths) × (y .thousandths ≤ greatest100) × (source ≡ sourceOf (y .thousandths)) ⌝ }
+    ensures { λ r. ⌜ r ≡ basisValue oil (y .thousandths) ⌝ }
 {
-    let x = y.thousandths;
-    if x <= LAST_ROW {
-        at_place(rows, COLUMN_H, locate(x))
-    } else {
-        h_above(x)
+    match source {
+        Source::Table(place) => at_place(rows, oil, place),
+        Source::Quadratics => by_quadratic(oil, y.thousandths),
     }
 }
 
@@ -205,32 +263,33 @@ pub fn basis_of(y: Kv100) -> Basis
     requires { ⌜ (least100 ≤ y .thousandths) × (y .thousandths ≤ greatest100) ⌝ }
     ensures { λ r. ⌜ r ≡ basisOf (y .thousandths) ⌝ }
 {
-    let x = y.thousandths;
-    if LAST_ROW < x {
-        return Basis {
-            l: l_above(x),
-            h: h_above(x),
-        };
-    }
-    let rows = TABLE1;
-    Basis {
-        l: l_at(&rows, y),
-        h: h_at(&rows, y),
+    match source_of(y) {
+        Source::Table(place) => {
+            let rows = rows_table();
+            Basis {
+                l: at_place(&rows, ReferenceOil::L, place),
+                h: at_place(&rows, ReferenceOil::H, place),
+            }
+        }
+        Source::Quadratics => Basis {
+            l: by_quadratic(ReferenceOil::L, y.thousandths),
+            h: by_quadratic(ReferenceOil::H, y.thousandths),
+        },
     }
 }
 
 // The answer to the request for L and H: refused by the question of that number, or both values.
-pub enum Reference {
+pub enum BasisAnswer {
     Refused(u8),
-    Oils(Basis),
+    Found(Basis),
 }
 
 // The request for L and H alone: any y.
-pub fn reference_oils(y: u32) -> Reference
-    ensures { λ r. ⌜ r ≡ referenceOf y ⌝ }
+pub fn answer_basis(y: u32) -> BasisAnswer
+    ensures { λ r. ⌜ r ≡ basisAnswerOf y ⌝ }
 {
     match Kv100::new(y) {
-        Asked100::Refused(number) => Reference::Refused(number),
-        Asked100::Within(v) => Reference::Oils(basis_of(v)),
+        Asked100::Refused(number) => BasisAnswer::Refused(number),
+        Asked100::Within(v) => BasisAnswer::Found(basis_of(v)),
     }
 }

@@ -1,5 +1,4 @@
 -- The lines read from the worked sheet are those of the sheet as it was handed in: its pairs are kept, and each record is its pair's answer.
--- Assumes nothing.
 use Prim.Native.Nat.{ℕ, zero, suc, _+_, _*_, _≤_, _<_}
 use mathlib.Core.Path.{_≡_, refl, sym, ap, _∙_}
 use mathlib.Core.List.{List, _++_}
@@ -8,17 +7,21 @@ use borrow.Author.Tests.{eq-eqb, le-leb, lt-leb}
 use lib.ListN.{length}
 use Rattle.sheet.specs.declared.SheetAnswer.{SheetAnswer}
 use Rattle.sheet.specs.declared.SheetAnswer.the-variants.{Refused, Accepted}
-use Rattle.sheet.specs.Record.{resultSize}
+use Rattle.answer_record.specs.Record.{resultSize}
 use Rattle.sheet.specs.Sheet.{countOf, pairsOf, resultsOf, uAt, yAt, answerAt, sheetRefusal, sheetAnswerOf, sheetAfter, sheetNumberOf}
-use Rattle.sheet.proofs.Questions.{fails-none}
+use Rattle.sheet.proofs.FailsNone.{fails-none}
 use Rattle.sheet.proofs.Blocks.{pair-apart}
 use Rattle.sheet.proofs.Records.{u-kept, y-kept}
 use Rattle.sheet.proofs.Worked.{all-stored, number-of-answer, same-length, header-kept}
-use Rattle.sheet.proofs.Fields.{record-read}
-use Rattle.report.specs.Text.{outcome, printedLine, printedLines, firstLine, refusedLine, textBy, textOf, mostInput, printed, textAfter, inputAfter}
-use Rattle.report.specs.Inner.{Put, outcomeAt, lineAt, linesAt, Readable}
-use Rattle.report.proofs.Puts.{put-as, put-length, put-at-start}
-use Rattle.report.proofs.Fields.{outcome-by-fields}
+use Rattle.sheet.proofs.RecordsAfter.{record-read}
+use Rattle.text_fields.specs.Put.{Put}
+use Rattle.text_fields.proofs.Puts.{put-as, put-length, put-at-start}
+use Rattle.text_lines.specs.Lines.{outcome, printedLine, firstLine, refusedLine}
+use Rattle.text_lines.specs.FromRecord.{outcomeAt, lineAt}
+use Rattle.text_lines.proofs.Outcomes.{outcome-by-fields}
+use Rattle.report.specs.Text.{printedLines, textBy, textOf, mostInput, printed, textAfter, inputAfter, tooLong}
+use Rattle.report.specs.FromRecords.{linesAt}
+use Rattle.report.specs.Preconditions.{Readable}
 
 module _ (s : List ℕ) (q : sheetRefusal s ≡ 0) where
   -- the outcome of a record that is an answer's
@@ -28,10 +31,10 @@ module _ (s : List ℕ) (q : sheetRefusal s ≡ 0) where
       let read = record-read s q i h in
       rw (read .refusal, read .method, read .index) (outcome-by-fields (answerAt s (pairsOf s) i))
 
-  pub pairs-kept : pairsOf (sheetAfter s) ≡ pairsOf s
+  pairs-kept : pairsOf (sheetAfter s) ≡ pairsOf s
   pairs-kept = header-kept s q _ (omega arith)
 
-  pub results-kept : resultsOf (sheetAfter s) ≡ resultsOf s
+  results-kept : resultsOf (sheetAfter s) ≡ resultsOf s
   results-kept = header-kept s q _ (omega arith)
 
   line-read : (i : ℕ) → i < countOf s
@@ -50,7 +53,7 @@ module _ (s : List ℕ) (q : sheetRefusal s ≡ 0) where
   lines-read (suc n) h = rw (lines-read n (omega arith), line-read n (omega arith))
 
   -- the worked sheet can be read
-  pub readable : Readable (sheetAfter s) (countOf s)
+  readable : Readable (sheetAfter s) (countOf s)
   readable =
       let a = fails-none s q in
       record {
@@ -60,11 +63,11 @@ module _ (s : List ℕ) (q : sheetRefusal s ≡ 0) where
       }
 
 -- what an accepted sheet's answer says of it
-pub record AnsweredBy (s : List ℕ) (n : ℕ) : Type 0 where
+record AnsweredBy (s : List ℕ) (n : ℕ) : Type 0 where
   pub none-failed : sheetRefusal s ≡ 0
   pub count-is : countOf s ≡ n
 
-pub answered-by : (s : List ℕ) (n : ℕ) → sheetAnswerOf s ≡ Accepted n → AnsweredBy s n
+answered-by : (s : List ℕ) (n : ℕ) → sheetAnswerOf s ≡ Accepted n → AnsweredBy s n
 unfolding sheetAnswerOf
 answered-by s n e =
     let none : sheetRefusal s ≡ 0 = sym (number-of-answer s) ∙ ap sheetNumberOf e in
@@ -78,7 +81,7 @@ readable-by s t n w e =
 
 -- what is printed: for input that is too long, for a refused sheet, and for an accepted one from the lines read
 module _ (s : List ℕ) where
-  pub too-long : mostInput < length s → refusedLine 12 ≡ printed s
+  pub too-long : mostInput < length s → refusedLine tooLong ≡ printed s
   unfolding printed
   too-long h = rw (lt-leb _ _ h)
 

@@ -1,5 +1,6 @@
--- The definitions that the contracts of the report cite, and its examples, in the order to read them in.
--- Assumes nothing.
+-- The definitions that the contracts of the report cite, in the order to read them in: which bytes are printed for a sheet; how many they are at most;
+-- and, for inner functions alone, how the lines are read from the worked sheet, and what they ask of their callers.
 pub mod Text
-pub mod Inner
-pub mod Examples
+pub mod Widths
+pub mod FromRecords
+pub mod Preconditions

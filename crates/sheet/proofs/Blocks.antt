@@ -1,12 +1,11 @@
 -- The two blocks of a sheet: pair i and its record lie within them, and pair i shares no byte with the records.
--- Assumes nothing.
 use Prim.Native.Nat.{ℕ, _+_, _*_, _≤_, _<_}
 use mathlib.Core.Path.{_≡_}
 use mathlib.Core.Logic.{_⊎_, inl, inr, ⊎-elim}
 use native.Mathlib.Omega.{arith}
-use Rattle.sheet.specs.Record.{resultSize}
+use Rattle.answer_record.specs.Record.{resultSize}
 use Rattle.sheet.specs.Sheet.{pairSize}
-use Rattle.sheet.specs.Inner.{PairWithin, BlocksWithin}
+use Rattle.sheet.specs.Preconditions.{PairWithin, BlocksWithin}
 
 -- the blocks by the numbers that were read from the header
 pub blocks-read : {size n n′ pairs pairs′ results results′ : ℕ} → n′ ≡ n → pairs′ ≡ pairs → results′ ≡ results

@@ -1,7 +1,6 @@
 -- The sheets of document 01's 'Pairs and sheets to try', computed from the definitions.
--- Assumes nothing.
 use mathlib.Core.Path.{refl}
-use Rattle.sheet.specs.Bytes.{numberAt, bytesOf}
+use Rattle.answer_record.specs.Bytes.{numberAt, bytesOf}
 use Rattle.sheet.specs.Sheet.{standsWithin, shareNoByte, sheetRefusal, recordsOf, sheetAnswerOf, sheetAfter}
 use Rattle.sheet.specs.Examples.{TriedSheets}
 

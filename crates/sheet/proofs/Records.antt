@@ -1,31 +1,19 @@
--- Records: their length, a record stored field by field, and one turn of the loop over the pairs.
--- Assumes nothing.
+-- The records of a sheet: their length, and one turn of the loop over the pairs.
 use Prim.Native.Nat.{ℕ, zero, suc, _+_, _*_, _-_, _≤_, _<_}
-use mathlib.Core.Path.{_≡_, refl, sym, ap, _∙_}
+use mathlib.Core.Path.{_≡_, refl, ap, _∙_}
 use mathlib.Core.List.{List, _++_}
 use mathlib.Core.Logic.{_⊎_, inl, inr, ⊎-elim}
 use native.Mathlib.Numerals.{add-one}
 use native.Mathlib.Omega.{arith}
-use lib.IntN.{ℤ}
 use lib.ListN.{length, take, drop, length-append}
-use Rattle.index.specs.declared.Answer.{Answer}
-use Rattle.index.specs.declared.Answer.the-variants.{Refused, A, B}
-use Rattle.index.specs.declared.ByB.{ByB}
-use Rattle.index.specs.Answer.{methodOfMark}
-use Rattle.index.specs.Chosen.{answerOf}
-use Rattle.sheet.specs.Bytes.{numberSize, numberAt, bytesOf, twosComplement, stored}
-use Rattle.sheet.specs.Record.{resultSize, headOf, laidOut, recordOf}
-use Rattle.sheet.specs.Sheet.{pairSize, yPlace, uAt, yAt, answerAt, recordsOf}
-use Rattle.sheet.specs.Inner.{BlocksWithin}
-use Rattle.sheet.proofs.Stores.{stored-append, number-kept, part-back}
+use Rattle.index.specs.declared.answer.Answer.{Answer}
+use Rattle.answer_record.specs.Bytes.{numberSize, numberAt, stored}
+use Rattle.answer_record.specs.Record.{resultSize, recordOf}
+use Rattle.answer_record.proofs.Stores.{stored-append, number-kept, part-back}
+use Rattle.answer_record.proofs.Records.{length-record}
+use Rattle.sheet.specs.Sheet.{pairSize, yOffset, uAt, yAt, answerAt, recordsOf}
+use Rattle.sheet.specs.Preconditions.{BlocksWithin}
 use Rattle.sheet.proofs.Blocks.{pair-apart}
-
-pub length-laid-out : (number method index lower upper : ℕ) → length (laidOut number method index lower upper) ≡ resultSize
-unfolding laidOut headOf bytesOf
-length-laid-out number method index lower upper = refl
-
-pub length-record : (a : Answer) → length (recordOf a) ≡ resultSize
-length-record a = length-laid-out _ _ _ _ _
 
 pub length-records : (s : List ℕ) (pairs n : ℕ) → length (recordsOf s pairs n) ≡ resultSize * n
 unfolding recordsOf
@@ -33,26 +21,11 @@ length-records s pairs zero = refl
 length-records s pairs (suc n) =
     rw length-append (omega (arith, length-records s pairs n, length-record (answerAt s pairs n)))
 
--- the record of each case, from its fields
-module _ (l l′ : List ℕ) (at : ℕ) {a : Answer} where
-  pub refused-stored : {number : ℕ} → a ≡ Refused number → l′ ≡ stored l at (laidOut number 0 0 0 0) → l′ ≡ stored l at (recordOf a)
-  refused-stored e h = h ∙ sym (ap (λ (r : List ℕ). stored l at r) (ap recordOf e))
-
-  pub a-stored : {k : ℤ} {index : ℕ} → a ≡ A k → index ≡ twosComplement k → l′ ≡ stored l at (laidOut 0 1 index 0 0)
-      → l′ ≡ stored l at (recordOf a)
-  a-stored e i h = cc
-
-  pub b-stored : {b : ByB} {method : ℕ} → a ≡ B b → method ≡ methodOfMark (b .mark)
-      → l′ ≡ stored l at (laidOut 0 method (b .index) (b .lower) (b .upper)) → l′ ≡ stored l at (recordOf a)
-  b-stored e m h = cc
-
 -- the part that starts at the result offset comes back with the record of pair i in it
-pub part-worked : (s part : List ℕ) (results pairs i : ℕ) {u y : ℕ} {a : Answer} → results ≤ length s
-    → u ≡ uAt s pairs i → y ≡ yAt s pairs i → a ≡ answerOf u y
+pub part-worked : (s part : List ℕ) (results pairs i : ℕ) {a : Answer} → results ≤ length s → a ≡ answerAt s pairs i
     → part ≡ stored (take (length s - results) (drop results s)) (resultSize * i) (recordOf a)
     → take results s ++ (part ++ drop (length s - results) (drop results s)) ≡ stored s (results + resultSize * i) (recordOf (answerAt s pairs i))
-part-worked s part results pairs i {u} {y} {a} h eu ey ea e =
-    let same : a ≡ answerAt s pairs i = rw (eu, ey) at ea in
+part-worked s part results pairs i {a} h same e =
     part-back s part (recordOf a) results (resultSize * i) h e
     ∙ ap (λ (b : Answer). stored s (results + resultSize * i) (recordOf b)) same
 
@@ -76,7 +49,7 @@ module _ (s : List ℕ) (pairs results i k : ℕ)
   u-kept = kept (pairs + pairSize * i) (omega arith) (omega arith)
 
   pub y-kept : yAt (stored s results (recordsOf s pairs k)) pairs i ≡ yAt s pairs i
-  y-kept = kept (pairs + pairSize * i + yPlace) (omega arith) (omega arith)
+  y-kept = kept (pairs + pairSize * i + yOffset) (omega arith) (omega arith)
 
 -- one turn: pair i is read as it was at entry, and its record comes after those before it
 pub next-turn : (s t t′ : List ℕ) (size n pairs results i : ℕ) → BlocksWithin size n pairs results → i < n

@@ -1,5 +1,4 @@
 -- The sheet operation's answer and the sheet it leaves, from what its steps say.
--- Assumes nothing.
 use Prim.Native.Nat.{ℕ, zero, suc, _+_, _≤_, _<_}
 use mathlib.Core.Path.{_≡_, refl, sym, ap, _∙_}
 use mathlib.Core.Bool.{cond}
@@ -9,11 +8,11 @@ use native.Mathlib.Omega.{arith}
 use borrow.Author.Tests.{eq-eqb, ne-eqb}
 use lib.Dec.{eqb}
 use lib.ListN.{length, getD}
+use Rattle.answer_record.specs.Bytes.{numberSize, numberAt, stored}
+use Rattle.answer_record.proofs.Stores.{stored-parts, length-stored, byte-kept, number-kept}
 use Rattle.sheet.specs.declared.SheetAnswer.the-variants.{Refused, Accepted}
-use Rattle.sheet.specs.Bytes.{numberSize, numberAt, stored}
 use Rattle.sheet.specs.Sheet.{headerSize, countOf, pairsOf, resultsOf, resultsEnd, recordsOf, sheetRefusal, sheetAnswerOf, sheetAfter, sheetNumberOf}
-use Rattle.sheet.proofs.Stores.{stored-parts, length-stored, byte-kept, number-kept}
-use Rattle.sheet.proofs.Questions.{fails-none}
+use Rattle.sheet.proofs.FailsNone.{fails-none}
 use Rattle.sheet.proofs.Records.{length-records}
 
 -- the records stored from the result offset on are the result block
@@ -45,7 +44,8 @@ pub number-of-answer : (s : List ℕ) → sheetNumberOf (sheetAnswerOf s) ≡ sh
 unfolding sheetAnswerOf
 number-of-answer s = answer-number (sheetRefusal s) (countOf s)
 
--- an accepted sheet keeps its length, its header's numbers, and every byte outside its result block
+-- an accepted sheet keeps its length and its header's numbers, and, as the paper says, "all bytes outside the result block stay".
+-- No proof cites `outside-kept`; it shows that sentence of `sheetAfter`
 pub same-length : (s : List ℕ) → sheetRefusal s ≡ 0 → length (sheetAfter s) ≡ length s
 same-length s q = ap length (sym (all-stored s q)) ∙ length-stored _ _ _
 

@@ -1,7 +1,6 @@
 -- Demand 3, beside the customer's words: one claim about a whole sheet, from its bytes before and after the one call that works it.
 -- "In it a record is answered when its pair passes questions 1 to 4; an oil is below H when U is below H; thicker at 40 °C means the greater
 -- u. The exact value, the two marks and what the fractions show are as under procedure B, with p and P taken from that record."
--- Assumes nothing.
 use Prim.Native.Nat.{ℕ, _+_, _*_, _<_}
 use mathlib.Core.Path.{_≡_}
 use mathlib.Core.List.{List}
@@ -9,12 +8,12 @@ use mathlib.Core.Logic.{_⊎_}
 use lib.IntN.{ℤ, pos}
 use lib.Signed.{_≤ℤ_}
 use Rattle.reference.specs.Basis.{H-at}
-use Rattle.index.specs.declared.Mark.the-variants as mark
-use Rattle.index.specs.Questions.{refusal}
 use Rattle.reference.specs.Viscosity.{inUnits}
+use Rattle.shown_index.specs.declared.Mark.the-variants as mark
+use Rattle.index.specs.Questions.{refusal}
 use Rattle.index.specs.ProcedureB.{SettledAt, NearAt}
 use Rattle.index.specs.Answer.{methodOfMark}
-use Rattle.sheet.specs.Record.{resultSize, recordAt, methodAt, indexAt, lowerAt, upperAt, RecordOfPair}
+use Rattle.answer_record.specs.Record.{resultSize, recordAt, methodAt, indexAt, lowerAt, upperAt, RecordOfPair}
 use Rattle.sheet.specs.Sheet.{countOf, pairsOf, resultsOf, uAt, yAt, sheetRefusal}
 
 module _ (before after : List ℕ) where
@@ -28,24 +27,24 @@ module _ (before after : List ℕ) where
   abbrev pub y : ℕ → ℕ
   y i = yAt before (pairsOf before) i
 
-  -- record i after the call: where it stands, its bytes, and what is read from them; `lower` and `upper` are p and P
-  abbrev pub place : ℕ → ℕ
-  place i = resultsOf before + resultSize * i
+  -- record i after the call: the offset at which it stands, its bytes, and what is read from them; `lower` and `upper` are p and P
+  abbrev pub offset : ℕ → ℕ
+  offset i = resultsOf before + resultSize * i
 
   abbrev pub bytes : ℕ → List ℕ
-  bytes i = recordAt after (place i)
+  bytes i = recordAt after (offset i)
 
   abbrev pub method : ℕ → ℕ
-  method i = methodAt after (place i)
+  method i = methodAt after (offset i)
 
   abbrev pub index : ℕ → ℤ
-  index i = indexAt after (place i)
+  index i = indexAt after (offset i)
 
   abbrev pub lower : ℕ → ℕ
-  lower i = lowerAt after (place i)
+  lower i = lowerAt after (offset i)
 
   abbrev pub upper : ℕ → ℕ
-  upper i = upperAt after (place i)
+  upper i = upperAt after (offset i)
 
   -- "a record is answered when its pair passes questions 1 to 4; an oil is below H when U is below H"
   abbrev pub Answered : ℕ → Type 0

@@ -1,11 +1,10 @@
 -- Document 01, 'Pairs and sheets to try': the sheets, as one statement. proofs/Examples.antt shows it from the definitions by computation.
 -- "16 bytes with n 0, offsets 16 and 16, total 16: accepted, unchanged. Pair offset 17 there: 14. Only the result offset 17: 15."
--- Assumes nothing.
 use Prim.Native.Nat.{ℕ}
 use mathlib.Core.Path.{_≡_}
 use mathlib.Core.List.{List, _++_}
+use Rattle.answer_record.specs.Bytes.{bytesOf}
 use Rattle.sheet.specs.declared.SheetAnswer.the-variants.{Refused, Accepted}
-use Rattle.sheet.specs.Bytes.{bytesOf}
 use Rattle.sheet.specs.Sheet.{sheetAnswerOf, sheetAfter}
 
 -- a sheet that is a header and nothing else

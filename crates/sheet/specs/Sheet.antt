@@ -1,40 +1,51 @@
 -- Document 01, 'A sheet': the header, the questions to a sheet, the answer to it, and the whole sheet afterwards.
--- Assumes nothing.
 use Prim.Native.Nat.{ℕ, zero, suc, _+_, _*_}
 use mathlib.Core.Bool.{Bool, cond, _&&_, _||_}
 use mathlib.Core.List.{List, [], _++_}
 use lib.Dec.{leb, eqb}
 use lib.ListN.{length, take, drop}
-use Rattle.index.specs.declared.Answer.{Answer}
+use Rattle.index.specs.declared.answer.Answer.{Answer}
 use Rattle.index.specs.Questions.{ask}
-use Rattle.index.specs.Chosen.{answerOf}
+use Rattle.index.specs.ChosenAnswer.{answerOf}
+use Rattle.answer_record.specs.Bytes.{numberAt}
+use Rattle.answer_record.specs.Record.{resultSize, recordOf}
 use Rattle.sheet.specs.declared.SheetAnswer.{SheetAnswer}
 use Rattle.sheet.specs.declared.SheetAnswer.the-variants.{Refused, Accepted}
-use Rattle.sheet.specs.Bytes.{numberAt}
-use Rattle.sheet.specs.Record.{resultSize, recordOf}
 
 -- "Header of four 32-bit numbers: the count n at 0, the offset of the pair block at 4, of the result block at 8, the total length at 12."
 abbrev pub headerSize : ℕ
 headerSize = 16
 
+abbrev pub countOffset : ℕ
+countOffset = 0
+
+abbrev pub pairsOffset : ℕ
+pairsOffset = 4
+
+abbrev pub resultsOffset : ℕ
+resultsOffset = 8
+
+abbrev pub totalOffset : ℕ
+totalOffset = 12
+
 abbrev pub countOf : List ℕ → ℕ
-countOf sheet = numberAt sheet 0
+countOf sheet = numberAt sheet countOffset
 
 abbrev pub pairsOf : List ℕ → ℕ
-pairsOf sheet = numberAt sheet 4
+pairsOf sheet = numberAt sheet pairsOffset
 
 abbrev pub resultsOf : List ℕ → ℕ
-resultsOf sheet = numberAt sheet 8
+resultsOf sheet = numberAt sheet resultsOffset
 
 abbrev pub totalOf : List ℕ → ℕ
-totalOf sheet = numberAt sheet 12
+totalOf sheet = numberAt sheet totalOffset
 
 -- "A pair is 8 bytes, u then y."
 abbrev pub pairSize : ℕ
 pairSize = 8
 
-abbrev pub yPlace : ℕ
-yPlace = 4
+abbrev pub yOffset : ℕ
+yOffset = 4
 
 -- where the two blocks end: "(offset + 8n)", "(offset + 16n)"
 abbrev pub pairsEnd : List ℕ → ℕ
@@ -51,7 +62,7 @@ mostPairs = 2000
 unfoldable pub standsWithin : ℕ → ℕ → ℕ → Bool
 standsWithin begin end total = leb headerSize begin && leb end total
 
--- "share no byte": one ends at or before the place where the other begins. Where n is 0 both blocks are empty, and this holds wherever
+-- "share no byte": one ends at or before the offset at which the other begins. Where n is 0 both blocks are empty, and this holds wherever
 -- they stand
 unfoldable pub shareNoByte : ℕ → ℕ → ℕ → ℕ → Bool
 shareNoByte begin end begin′ end′ = leb end begin′ || leb end′ begin
@@ -77,7 +88,7 @@ abbrev pub uAt : List ℕ → ℕ → ℕ → ℕ
 uAt sheet pairs i = numberAt sheet (pairs + pairSize * i)
 
 abbrev pub yAt : List ℕ → ℕ → ℕ → ℕ
-yAt sheet pairs i = numberAt sheet (pairs + pairSize * i + yPlace)
+yAt sheet pairs i = numberAt sheet (pairs + pairSize * i + yOffset)
 
 -- "the answer that the pair operation gives to this u and y"
 abbrev pub answerAt : List ℕ → ℕ → ℕ → Answer

@@ -1,23 +1,22 @@
 -- What the C calls answer and leave, from what the operations below them ensure.
--- Assumes nothing.
 use Prim.Native.Nat.{ℕ}
 use mathlib.Core.Path.{_≡_, refl, sym, ap, _∙_}
 use mathlib.Core.List.{List}
 use lib.ListN.{length}
-use Rattle.index.specs.declared.Answer.{Answer}
+use Rattle.index.specs.declared.answer.Answer.{Answer}
 use Rattle.index.specs.Answer.{numberOf, RightAnswer}
-use Rattle.index.specs.Chosen.{answerOf}
+use Rattle.index.specs.ChosenAnswer.{answerOf}
+use Rattle.answer_record.specs.Bytes.{stored}
+use Rattle.answer_record.specs.Record.{resultSize, recordOf}
+use Rattle.answer_record.proofs.Stores.{stored-whole}
+use Rattle.answer_record.proofs.Records.{length-record}
 use Rattle.sheet.specs.declared.SheetAnswer.{SheetAnswer}
-use Rattle.sheet.specs.Bytes.{stored}
-use Rattle.sheet.specs.Record.{resultSize, recordOf}
 use Rattle.sheet.specs.Sheet.{sheetRefusal, sheetAnswerOf, sheetNumberOf}
-use Rattle.sheet.proofs.Stores.{stored-whole}
-use Rattle.sheet.proofs.Records.{length-record}
 use Rattle.sheet.proofs.Worked.{number-of-answer}
-use Rattle.viscosity_index.specs.PairCall.{PairCall}
+use Rattle.viscosity_index.specs.PairCall.{notARecord, PairCall}
 
--- a record of another length: 5, and the record as it was
-pub untouched : (u y : ℕ) (lent : List ℕ) → (length lent ≡ resultSize → ⊥) → PairCall u y lent 5 lent
+-- a record of another length: its number, and the record as it was
+pub untouched : (u y : ℕ) (lent : List ℕ) → (length lent ≡ resultSize → ⊥) → PairCall u y lent notARecord lent
 untouched u y lent h = record { just-16 = λ e. absurd (h e); not-16 = λ _. (refl, refl) }
 
 -- a record of 16 bytes: all of it is the record that was stored from its start on

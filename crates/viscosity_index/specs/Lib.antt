@@ -1,3 +1,2 @@
 -- The definition that the contract of the pair call cites.
--- Assumes nothing.
 pub mod PairCall

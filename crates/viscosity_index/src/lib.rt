@@ -1,23 +1,14 @@
 // What C calls: the pair and the sheet operation on numbers and bytes. The header is include/viscosity_index.h.
 ghost use mathlib.Core.Path.{_≡_};
-ghost use Rattle.index.specs.Answer.{numberOf};
 ghost use Rattle.sheet.specs.Sheet.{sheetRefusal, sheetAfter, sheetNumberOf};
 ghost use Rattle.sheet.specs.Demand3.{Demand3};
 ghost use Rattle.viscosity_index.specs.PairCall.{pairNumber, recordAfter, PairCall};
-use index::Answer;
+use answer_record::layout::RESULT_SIZE;
+use index::answer::number_of;
 use sheet::SheetAnswer;
-use sheet::layout::RESULT_SIZE;
 
-// The number of an answer, 0 if the pair is answered.
-fn number_of(answer: Answer) -> u32
-    ensures { λ r. ⌜ r ≡ numberOf answer ⌝ }
-{
-    match answer {
-        Answer::Refused(number) => number as u32,
-        Answer::A(_) => 0,
-        Answer::B(_) => 0,
-    }
-}
+// What the pair call answers where the lent record is not 16 bytes.
+const NOT_A_RECORD: u32 = 5;
 
 // The number of an answer to a sheet, 0 if it is accepted.
 fn number_of_sheet(answer: SheetAnswer) -> u32
@@ -37,11 +28,11 @@ pub extern "C" fn vi_pair(u: u32, y: u32, record: &mut [u8]) -> u32
     ensures right { λ r. ⌜ PairCall u y (now («record» .entry)) r (now («record» .exit)) ⌝ }
 {
     if record.len() != RESULT_SIZE {
-        return 5;
+        return NOT_A_RECORD;
     }
     let answer = index::answer_pair(u, y);
-    sheet::write_result(record, 0, answer);
-    number_of(answer)
+    answer_record::write_result(record, 0, answer);
+    number_of(answer) as u32
 }
 
 // Works a sheet. The count of its pairs stands in its header, so the number is all that is answered.

@@ -1,9 +1,9 @@
 -- An entry is read from its two halves, each below 2^32.
--- Assumes nothing.
 use Prim.Native.Nat.{ℕ, _+_, _*_}
 use mathlib.Core.Path.{ap₂}
 use borrow.Author.Needs.{needs}
-use Rattle.logarithm.specs.Log2.{halfSpan, entryAt}
+use Rattle.laws.specs.Bits.{span32}
+use Rattle.logarithm.specs.Log2.{entryAt}
 use Rattle.logarithm.proofs.entry_at.Statement.{statement}
 use Rattle.logarithm.proofs.entry_at.Tie as tie
 
@@ -42,7 +42,7 @@ add-result c = search needs
 
 returns : tie.Need-returns
 unfolding entryAt
-returns c = ap₂ (λ (low : ℕ) (high : ℕ). low + halfSpan * high) (c .before .before .wide .ensures .0) (c .wide2 .ensures .0)
+returns c = ap₂ (λ (low : ℕ) (high : ℕ). low + span32 * high) (c .before .before .wide .ensures .0) (c .wide2 .ensures .0)
 
 pub entry-at-spec : {M : Type 1} → statement M
 entry-at-spec =

@@ -1,4 +1,4 @@
--- `logarithm::first_table` meets its contract: the array of the source is the list of specs/. Assumes nothing.
+-- `logarithm::first_table` meets its contract: the array of the source is the list of specs/.
 use mathlib.Core.Path.{refl}
 use Rattle.logarithm.specs.Tables.{firstTable}
 use Rattle.logarithm.proofs.first_table.Statement.{statement}

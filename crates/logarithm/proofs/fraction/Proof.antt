@@ -1,13 +1,12 @@
 -- `logarithm::fraction` meets its contract: the lent tables are certified, so each level's answer is in the next one's range.
--- Assumes nothing.
 use Prim.Native.Nat.{_+_, _*_, _≤_, _<_}
 use mathlib.Core.Path.{_≡_}
 use native.Mathlib.Omega.{arith}
 use borrow.Author.Needs.{needs}
 use Rattle.logarithm.specs.Scale.{unit}
 use Rattle.logarithm.specs.Tables.{firstTable, secondTable}
-use Rattle.logarithm.specs.Log2.{secondSpacing}
-use Rattle.logarithm.proofs.Level.{lineRoom, first-certified, second-certified}
+use Rattle.logarithm.specs.Log2.{secondSpacing, slotCount}
+use Rattle.logarithm.proofs.Level.{tailRoom, first-certified, second-certified}
 use Rattle.logarithm.proofs.Log2.{reduced-range, fraction-computed}
 use Rattle.logarithm.proofs.fraction.Statement.{statement}
 use Rattle.logarithm.proofs.fraction.Tie as tie
@@ -17,7 +16,7 @@ use Rattle.logarithm.proofs.reduce.Reads as reduce-reads
 
 after-first :
     (c : lts.After-reduce (reduce-reads.Asked, reduce-reads.Learnt) reads.Pre reads.Post)
-    → (unit ≤ c .reduce .result .mantissa) × (c .reduce .result .mantissa < unit + 256 * secondSpacing)
+    → (unit ≤ c .reduce .result .mantissa) × (c .reduce .result .mantissa < unit + slotCount * secondSpacing)
 after-first c =
     let e : c .before .args .first .now ≡ firstTable = c .before .pre .0 .one in
     let p = c .before .pre .1 in
@@ -25,7 +24,7 @@ after-first c =
 
 after-second :
     (c : lts.After-reduce2 (reduce-reads.Asked, reduce-reads.Learnt) reads.Pre reads.Post)
-    → (unit ≤ c .reduce2 .result .mantissa) × (c .reduce2 .result .mantissa < unit + lineRoom)
+    → (unit ≤ c .reduce2 .result .mantissa) × (c .reduce2 .result .mantissa < unit + tailRoom)
 after-second c =
     let e : c .before .before .args .second .now ≡ secondTable = c .before .before .pre .0 .two in
     let p = after-first (c .before) in

@@ -1,5 +1,4 @@
 -- `logarithm::log2_scaled` meets its contract: x shifted up is the mantissa, and what is returned is the definition's value.
--- Assumes nothing.
 use mathlib.Core.Path.{ap, _∙_, subst, sym}
 use Prim.Native.Nat.{ℕ}
 use native.Mathlib.Omega.{arith}

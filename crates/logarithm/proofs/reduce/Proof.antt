@@ -1,4 +1,4 @@
--- `logarithm::reduce` meets its contract: what is taken off the mantissa is at most the mantissa, and no product wraps. Assumes nothing.
+-- `logarithm::reduce` meets its contract: what is taken off the mantissa is at most the mantissa, and no product wraps.
 use Prim.Native.Nat.{ℕ, _*_, _%_, _-_, _+_, _/_, _≤_, _<_}
 use native.Mathlib.Nat.{mul-le-mul-left, div-lt-iff-lt-mul}
 use native.Mathlib.Omega.{arith}
@@ -13,8 +13,8 @@ use Rattle.logarithm.proofs.reduce.Tie as tie
 product-small : (m p : ℕ) → m < 2 * unit → m * (p % packing) ≤ (2 * unit - 1) * (packing - 1)
 product-small m p h = let k : p % packing ≤ packing - 1 = omega arith in omega (arith, mul-le-mul-left m k)
 
-taken-off : (m p d e : ℕ) → packing ≤ d → e < d → (m * (p % packing) + e) / d ≤ m
-taken-off m p d e h l =
+factor-off : (m p d e : ℕ) → packing ≤ d → e < d → (m * (p % packing) + e) / d ≤ m
+factor-off m p d e h l =
     let k : p % packing ≤ d = omega arith in
     let q : 0 < d = omega arith in
     let g : m * (p % packing) + e < (m + 1) * d = omega (arith, mul-le-mul-left m k) in
@@ -48,7 +48,7 @@ div-t12 : tie.Need-div-t12
 div-t12 c = search needs
 
 sub-t13 : tie.Need-sub-t13
-sub-t13 c = taken-off (c .before .before .args .m) _ (c .before .before .args .d) _ (c .before .before .pre .3) (omega (arith, c .before .before .pre .3))
+sub-t13 c = factor-off (c .before .before .args .m) _ (c .before .before .args .d) _ (c .before .before .pre .3) (omega (arith, c .before .before .pre .3))
 
 returns : tie.Need-returns
 unfolding timesFactor

@@ -1,4 +1,4 @@
--- `logarithm::second_table` meets its contract: the array of the source is the list of specs/. Assumes nothing.
+-- `logarithm::second_table` meets its contract: the array of the source is the list of specs/.
 use mathlib.Core.Path.{refl}
 use Rattle.logarithm.specs.Tables.{secondTable}
 use Rattle.logarithm.proofs.second_table.Statement.{statement}

@@ -1,5 +1,4 @@
 -- A place's value: what is read from the lent rows is the table's entry; on a row the next one is not read.
--- Assumes nothing.
 use mathlib.Core.Path.{_≡_, _∙_}
 use native.Mathlib.Omega.{arith}
 use borrow.Author.Tests.{eq-eqb, ne-eqb}
@@ -8,6 +7,9 @@ use Rattle.reference.specs.Basis.{entry, atPlace}
 use Rattle.reference.specs.Table1.{table1}
 use Rattle.reference.proofs.at_place.Statement.{statement}
 use Rattle.reference.proofs.at_place.Tie as tie
+
+column-of-requires : tie.Need-column-of-requires
+column-of-requires c κs = search needs
 
 mul-in-units : tie.Need-mul-in-units
 mul-in-units c = search needs
@@ -26,60 +28,67 @@ in-units-requires c κs = search needs
 
 returns : tie.Need-returns
 unfolding entry atPlace
-returns c = let e : c .before .before .before .args .rows .now ≡ table1 = c .before .before .before .pre .0 in c .in-units .ensures ∙ rw (eq-eqb _ _ (c .before .before .if1 .taken), e)
+returns c =
+    let s = c .before .before .before .before in
+    let e : s .args .rows .now ≡ table1 = s .pre .0 in
+    c .in-units .ensures ∙ rw (eq-eqb _ _ (c .before .before .if1 .taken), e, c .before .before .before .column-of .ensures .0)
 
-mul-line : tie.Need-mul-line
-mul-line c = search needs
+mul-straight-line : tie.Need-mul-straight-line
+mul-straight-line c = search needs
 
-add-line : tie.Need-add-line
-add-line c = search needs
+add-straight-line : tie.Need-add-straight-line
+add-straight-line c = search needs
 
-mul-line-2 : tie.Need-mul-line-2
-mul-line-2 c = search needs
+mul-straight-line-2 : tie.Need-mul-straight-line-2
+mul-straight-line-2 c = search needs
 
-element-copy-out-line : tie.Need-element-copy-out-line
-element-copy-out-line c = search needs
+element-copy-out-straight-line : tie.Need-element-copy-out-straight-line
+element-copy-out-straight-line c = search needs
 
-add-line-2 : tie.Need-add-line-2
-add-line-2 c = search needs
+add-straight-line-2 : tie.Need-add-straight-line-2
+add-straight-line-2 c = search needs
 
-mul-line-3 : tie.Need-mul-line-3
-mul-line-3 c = search needs
+mul-straight-line-3 : tie.Need-mul-straight-line-3
+mul-straight-line-3 c = search needs
 
-add-line-3 : tie.Need-add-line-3
-add-line-3 c = search needs
+add-straight-line-3 : tie.Need-add-straight-line-3
+add-straight-line-3 c = search needs
 
-mul-line-4 : tie.Need-mul-line-4
-mul-line-4 c = search needs
+mul-straight-line-4 : tie.Need-mul-straight-line-4
+mul-straight-line-4 c = search needs
 
-element-copy-out-line-2 : tie.Need-element-copy-out-line-2
-element-copy-out-line-2 c = omega (arith, c .before .before .pre .1 .3 (c .before .if1 .left))
+element-copy-out-straight-line-2 : tie.Need-element-copy-out-straight-line-2
+element-copy-out-straight-line-2 c = omega (arith, c .before .before .before .pre .1 .next (c .before .if1 .left))
 
-line-requires : tie.Need-line-requires
+line-requires : tie.Need-straight-line-requires
 line-requires c κs = search needs
 
 returns-2 : tie.Need-returns-2
 unfolding entry atPlace
-returns-2 c = let e : c .before .before .before .before .args .rows .now ≡ table1 = c .before .before .before .before .pre .0 in c .line .ensures ∙ rw (ne-eqb _ _ (c .before .before .before .if1 .left), e)
+returns-2 c =
+    let s = c .before .before .before .before .before in
+    let e : s .args .rows .now ≡ table1 = s .pre .0 in
+    c .straight-line .ensures ∙ rw (ne-eqb _ _ (c .before .before .before .if1 .left), e, c .before .before .before .before .column-of .ensures .0)
 
 pub at-place-spec : {M : Type 1} → statement M
 at-place-spec =
     tie.close
     (tie.spec
+    column-of-requires
     mul-in-units
     add-in-units
     mul-in-units-2
     element-copy-out-in-units
     in-units-requires
     returns
-    mul-line
-    add-line
-    mul-line-2
-    element-copy-out-line
-    add-line-2
-    mul-line-3
-    add-line-3
-    mul-line-4
-    element-copy-out-line-2
+    mul-straight-line
+    add-straight-line
+    mul-straight-line-2
+    element-copy-out-straight-line
+    add-straight-line-2
+    mul-straight-line-3
+    add-straight-line-3
+    mul-straight-line-4
+    element-copy-out-straight-line-2
     line-requires
     returns-2)

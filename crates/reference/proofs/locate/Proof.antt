@@ -1,5 +1,4 @@
 -- The row and the share of the way: in each of the three ranges the smallest is y in thousandths of that range's spacing, past row 0.
--- Assumes nothing.
 use Prim.Native.Nat.{ℕ, _+_, _*_, _-_, _/_, _%_, _≤_}
 use mathlib.Core.Path.{_≡_, ap₂}
 use native.Mathlib.Omega.{arith}
@@ -8,19 +7,19 @@ use borrow.Author.Needs.{needs}
 use Rattle.laws.proofs.Order.{by-order}
 use Rattle.reference.specs.declared.Place.{Place}
 use Rattle.reference.specs.Viscosity.{least100}
-use Rattle.reference.specs.Basis.{lastRow, placeOf}
+use Rattle.reference.specs.Basis.{lastRow, wholeWay, placeOf}
 use Rattle.reference.proofs.locate.Statement.{statement}
 use Rattle.reference.proofs.locate.Tie as tie
 
 abbrev made : ℕ → ℕ → Place
 made r s = record { row = r; share = s }
 
--- `rest` is the smaller of the lines of the second and the third range, `along` the smaller of it and the line of the first
-at : (y rest along : ℕ)
+-- `rest` is the smaller of what y measures in the spacing of the second and of the third range, `along` the smaller of it and of the first
+place-by-smallest : (y rest along : ℕ)
     → (5 * y + 80000 ≤ 2 * y + 170000 → rest ≡ 5 * y + 80000) × (2 * y + 170000 ≤ 5 * y + 80000 → rest ≡ 2 * y + 170000)
     → (10 * y - 20000 ≤ rest → along ≡ 10 * y - 20000) × (rest ≤ 10 * y - 20000 → along ≡ rest)
-    → least100 ≤ y → y ≤ lastRow → made (along / 1000) (along % 1000) ≡ placeOf y
-at y rest along later earlier low high =
+    → least100 ≤ y → y ≤ lastRow → made (along / wholeWay) (along % wholeWay) ≡ placeOf y
+place-by-smallest y rest along later earlier low high =
     by-order y 20000
     (λ a. let r = later .0 (omega arith) in
     let t = earlier .0 (omega arith) in
@@ -63,7 +62,7 @@ cast-t8 c = search needs
 returns : tie.Need-returns
 returns c =
     let s = c .before .before in
-    at (s .args .y) (c .before .smaller .result) (c .smaller2 .result) (c .before .smaller .ensures) (c .smaller2 .ensures) (s .pre .0) (s .pre .1)
+    place-by-smallest (s .args .y) (c .before .smaller .result) (c .smaller2 .result) (c .before .smaller .ensures) (c .smaller2 .ensures) (s .pre .0) (s .pre .1)
 
 pub locate-spec : {M : Type 1} → statement M
 locate-spec =

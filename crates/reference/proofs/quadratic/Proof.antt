@@ -1,20 +1,20 @@
 -- The quadratic: y is at most 500,000, so all fits 64 bits.
--- Assumes nothing.
 use Prim.Native.Nat.{_≤_, _*_}
 use native.Mathlib.Nat.{mul-le-mul}
 use native.Mathlib.Omega.{arith}
 use borrow.Author.Needs.{needs}
+use Rattle.reference.specs.Viscosity.{greatest100}
 use Rattle.reference.proofs.quadratic.Statement.{statement}
 use Rattle.reference.proofs.quadratic.Tie as tie
 
-square : (c : tie.Start) → c .args .y * c .args .y ≤ 500000 * 500000
-square c = mul-le-mul {n₂ = 500000} {m₂ = 500000} (omega arith) (omega arith)
+square : (c : tie.Start) → c .args .y * c .args .y ≤ greatest100 * greatest100
+square c = mul-le-mul {n₂ = greatest100} {m₂ = greatest100} (omega arith) (omega arith)
 
-squared : (c : tie.Start) → c .args .a * (c .args .y * c .args .y) ≤ 10000 * (500000 * 500000)
-squared c = mul-le-mul {n₂ = 10000} {m₂ = 500000 * 500000} (omega arith) (square c)
+squared : (c : tie.Start) → c .args .a * (c .args .y * c .args .y) ≤ 10000 * (greatest100 * greatest100)
+squared c = mul-le-mul {n₂ = 10000} {m₂ = greatest100 * greatest100} (omega arith) (square c)
 
-times : (c : tie.Start) → c .args .b * c .args .y ≤ 150000000 * 500000
-times c = mul-le-mul {n₂ = 150000000} {m₂ = 500000} (omega arith) (omega arith)
+times : (c : tie.Start) → c .args .b * c .args .y ≤ 150000000 * greatest100
+times c = mul-le-mul {n₂ = 150000000} {m₂ = greatest100} (omega arith) (omega arith)
 
 mul-result : tie.Need-mul-result
 mul-result c = omega (arith, square c)

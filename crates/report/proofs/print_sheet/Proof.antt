@@ -1,5 +1,4 @@
 -- By the length of the input, and then by the answer to the sheet.
--- Assumes nothing.
 use mathlib.Core.Path.{sym, _∙_}
 use borrow.Author.Needs.{needs}
 use Rattle.report.proofs.Worked.{readable-by, too-long, too-long-kept, refused-printed, accepted-printed, worked-kept, put-whole}

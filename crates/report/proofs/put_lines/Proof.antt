@@ -1,12 +1,13 @@
 -- The loop's invariant: the lines of the first i pairs are put.
--- Assumes nothing.
 use Prim.Native.Nat.{_≤_, _-_, _*_}
 use mathlib.Core.Path.{_≡_}
 use native.Mathlib.Omega.{arith}
 use borrow.Author.Needs.{needs}
 use Rattle.sheet.proofs.Blocks.{pair-within}
-use Rattle.report.specs.Inner.{Put, lineWidth, linesAt}
-use Rattle.report.proofs.Puts.{put-length}
+use Rattle.text_fields.specs.Put.{Put}
+use Rattle.text_lines.specs.Widths.{lineWidth}
+use Rattle.report.specs.FromRecords.{linesAt}
+use Rattle.text_fields.proofs.Puts.{put-length}
 use Rattle.report.proofs.Lines.{no-lines, one-more}
 use Rattle.report.proofs.put_lines.Statement.{statement}
 use Rattle.report.proofs.put_lines.Tie as tie

@@ -1,10 +1,9 @@
 -- The first line, and then the lines of the blocks that the header names.
--- Assumes nothing.
 use mathlib.Core.Path.{refl}
 use native.Mathlib.Omega.{arith}
 use borrow.Author.Needs.{needs}
 use Rattle.sheet.proofs.Blocks.{blocks-read}
-use Rattle.report.proofs.Puts.{put-then, put-within}
+use Rattle.text_fields.proofs.Puts.{put-then, put-wider}
 use Rattle.report.proofs.put_pairs.Statement.{statement}
 use Rattle.report.proofs.put_pairs.Tie as tie
 
@@ -44,7 +43,7 @@ returns c =
     let results = first-line .before .before in
     let pairs = results .before in
     let start = pairs .before .before .before in
-    put-within
+    put-wider
     (rw (pairs .number-at .ensures, results .number-at2 .ensures) at (put-then (first-line .put-first-line .ensures) (lines .put-lines .ensures)))
     (omega (arith, start .pre .1 .few))
 

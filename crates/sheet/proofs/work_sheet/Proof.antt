@@ -1,10 +1,9 @@
 -- A refused sheet is left as it is; of an accepted one the header is read, and the blocks lie as the inner functions ask.
--- Assumes nothing.
 use mathlib.Core.Path.{_≡_, sym, _∙_}
 use native.Mathlib.Omega.{arith}
 use borrow.Author.Needs.{needs}
 use Rattle.sheet.specs.Sheet.{sheetRefusal}
-use Rattle.sheet.proofs.Questions.{FailsNone, fails-none}
+use Rattle.sheet.proofs.FailsNone.{FailsNone, fails-none}
 use Rattle.sheet.proofs.Blocks.{blocks-read}
 use Rattle.sheet.proofs.Worked.{refused, worked}
 use Rattle.sheet.proofs.Demand3.{demand3}
@@ -43,11 +42,11 @@ number-at-requires-3 c κs = omega (arith, known (c .before .before .before .bef
 cast-results : tie.Need-cast-results
 cast-results c = search needs
 
-cast-work-with-tables : tie.Need-cast-work-with-tables
-cast-work-with-tables c = search needs
+cast-work-blocks : tie.Need-cast-work-blocks
+cast-work-blocks c = search needs
 
-work-with-tables-requires : tie.Need-work-with-tables-requires
-work-with-tables-requires c κs =
+work-blocks-requires : tie.Need-work-blocks-requires
+work-blocks-requires c κs =
     let third = c .before in
     let second = third .before .before in
     let first = second .before .before in
@@ -64,7 +63,7 @@ returns-2 c =
     let first = second .before .before in
     let r =
     worked _ _ _ _ _ (none-failed (first .before .before))
-    (first .number-at .ensures) (second .number-at2 .ensures) (third .number-at3 .ensures) (at-work .work-with-tables .ensures) in
+    (first .number-at .ensures) (second .number-at2 .ensures) (third .number-at3 .ensures) (at-work .work-blocks .ensures) in
     (r .0, (r .1, demand3 _ _ (r .1)))
 
 pub work-sheet-spec : {M : Type 1} → statement M
@@ -79,7 +78,7 @@ work-sheet-spec =
     cast-pairs
     number-at-requires-3
     cast-results
-    cast-work-with-tables
-    work-with-tables-requires
+    cast-work-blocks
+    work-blocks-requires
     same-length-2
     returns-2)

@@ -1,5 +1,4 @@
 -- The count that is written lies within the text.
--- Assumes nothing.
 use mathlib.Core.Path.{sym}
 use borrow.Author.Needs.{needs}
 use lib.Seq.{length-take-le}

@@ -1,10 +1,9 @@
 -- A record of another length is left as it is; one of 16 bytes becomes the record of the pair's answer.
--- Assumes nothing.
 use mathlib.Core.Path.{ap, _∙_}
 use borrow.Author.Tests.{eq-eqb, ne-eqb}
 use borrow.Author.Needs.{needs}
 use Rattle.index.specs.Answer.{numberOf}
-use Rattle.sheet.specs.Record.{recordOf}
+use Rattle.answer_record.specs.Record.{recordOf}
 use Rattle.viscosity_index.specs.PairCall.{pairNumber, recordAfter}
 use Rattle.viscosity_index.proofs.Calls.{untouched, whole, filled}
 use Rattle.viscosity_index.proofs.vi_pair.Statement.{statement}
@@ -24,6 +23,9 @@ write-result-requires c κs = search needs
 
 number-of-requires : tie.Need-number-of-requires
 number-of-requires c κs = search needs
+
+cast-result : tie.Need-cast-result
+cast-result c = search needs
 
 same-length : tie.Need-same-length
 same-length c = search needs
@@ -49,5 +51,6 @@ vi-pair-spec =
     answer-pair-requires
     write-result-requires
     number-of-requires
+    cast-result
     same-length
     returns-2)

@@ -1,5 +1,4 @@
 -- The number of the sheet operation's answer, and the sheet that it leaves.
--- Assumes nothing.
 use borrow.Author.Needs.{needs}
 use Rattle.viscosity_index.proofs.Calls.{sheet-number}
 use Rattle.viscosity_index.proofs.vi_sheet.Statement.{statement}

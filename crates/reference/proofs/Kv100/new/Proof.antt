@@ -1,5 +1,4 @@
 -- Questions 1 and 2: each return rewrites the definition by the tests that led to it.
--- Assumes nothing.
 use mathlib.Core.Path.{refl}
 use borrow.Author.Tests.{lt-ltb, le-ltb}
 use Rattle.reference.proofs.Kv100.new.Statement.{statement}

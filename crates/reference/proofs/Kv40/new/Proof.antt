@@ -1,5 +1,4 @@
 -- Question 3: each return rewrites the definition by the test that led to it.
--- Assumes nothing.
 use mathlib.Core.Path.{refl}
 use borrow.Author.Tests.{lt-ltb, le-ltb}
 use Rattle.reference.proofs.Kv40.new.Statement.{statement}

@@ -1,0 +1,11 @@
+-- What follows where facts contradict each other: `impossible cc` where two constructors are said to be equal.
+use Prim.Native.Nat.{ℕ}
+use mathlib.Core.Path.{_≡_}
+use mathlib.Core.Bool.{Bool, true, false}
+use native.Mathlib.Omega.{arith}
+
+pub impossible : {P : Type 0} → _≡_ {A = ℕ} 0 1 → P
+impossible e = absurd (omega (arith, e))
+
+pub both-ways : {P : Type 0} {b : Bool} → b ≡ true → b ≡ false → P
+both-ways p q = impossible (cc (p, q))

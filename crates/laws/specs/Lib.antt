@@ -1,0 +1,2 @@
+-- The numbers that several crates' definitions name.
+pub mod Bits
