@@ -88,7 +88,7 @@ L-at y = cond (leb y lastRow) (atPlace rowL (placeOf y)) (quadraticL y)
 unfoldable pub H-at : ℕ → ℕ
 H-at y = cond (leb y lastRow) (atPlace rowH (placeOf y)) (quadraticH y)
 
--- both
+-- L and H together
 abbrev pub basisOf : ℕ → Basis
 basisOf y = record { l = L-at y; h = H-at y }
 

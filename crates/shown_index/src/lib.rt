@@ -35,8 +35,7 @@ pub enum Mark {
     Near,
 }
 
-// What procedure B answers: the index, from 100 to 10,000; its mark; and the numerators p (lower) and P (upper) of its two fractions over
-// Q.
+// What procedure B answers: the index, from 100 to 10,000; its mark; and p (lower) and P (upper), the numerators of its two fractions over Q.
 pub struct ByB {
     pub index: u32,
     pub mark: Mark,
