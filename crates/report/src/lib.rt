@@ -26,6 +26,9 @@ pub const TEXT_SIZE: usize = FIRST_LINE_WIDTH + LINE_WIDTH * MOST_PAIRS;
 // The longest input that is worked; TOO_LONG is the number that refuses longer input.
 pub const MOST_INPUT: usize = 65_536;
 
+// What a program reads its input into, one byte more: where that is filled, the input is longer.
+pub const INPUT_SIZE: usize = MOST_INPUT + 1;
+
 const TOO_LONG: u8 = 12;
 
 // The lines of n pairs.
