@@ -14,11 +14,13 @@ starred-examples =
       basis = starred-basis;
       a-92 = refl;
       a-87 = refl;
+      at-h = refl;
       a-100 = refl;
       half-exact = refl;
       half = refl;
       negative-half-exact = refl;
       negative-half = refl;
       thickest = refl;
+      above-70-exact = refl;
       above-70 = refl;
     }

@@ -1,6 +1,8 @@
--- The laws of the pair operation, each leaning on those before it. Crates above cite Right, Fits and Order.
+-- The laws of the pair operation, each leaning on those before it. Crates above cite Right, Fits, Order and Consistent.
 pub mod QuestionOrder
 pub mod ProcedureA
+pub mod Consistent
+pub mod Determined
 pub mod Cases
 pub mod Numerators
 pub mod OilLogarithms
@@ -9,4 +11,4 @@ pub mod Right
 pub mod Fits
 pub mod Order
 pub mod Examples
-pub mod Consistent
+pub mod ForcedAnswers

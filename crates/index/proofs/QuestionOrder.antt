@@ -32,3 +32,6 @@ by-questions u y refused all =
     (λ d. by-order y u
     (λ e. all (record { least = a; most = b; thickest = d; thicker = e }))
     (λ e. refused 4 (refused-4 u y a b d e) (omega arith)))))
+
+pub passes : (u y : ℕ) → refusal u y ≡ 0 → Passes u y
+passes u y e = by-questions u y (λ n r p. absurd (omega arith)) (λ a. a)

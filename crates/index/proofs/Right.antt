@@ -12,7 +12,7 @@ use Rattle.shown_index.specs.ChosenIndex.{chosenIndex}
 use Rattle.shown_index.proofs.Marks.{right-index, numerators-kept}
 use Rattle.index.specs.ProcedureB.{Marked}
 use Rattle.index.specs.Answer.{RightB, RightAnswer}
-use Rattle.index.specs.ChosenFractions.{lowerFrom, upperFrom, lowerOfPair, upperOfPair, byB}
+use Rattle.index.specs.ChosenFractions.{lowerOfPair, upperOfPair, byB}
 use Rattle.index.specs.ChosenAnswer.{answerOf}
 use Rattle.index.specs.Preconditions.{Passes}
 use Rattle.index.proofs.QuestionOrder.{none-refuses}
@@ -31,15 +31,25 @@ module _ (u y k p P : ℕ) (lower : y ^ p * inUnits u ^ Q ≤ 1000 ^ p * H-at y 
   marked mark.Near s =
       record { at-least = record { index = s .at-least; viscosity = lower }; at-most = record { index = s .at-most; viscosity = upper } }
 
-pub by-b-right : (u y : ℕ) → Passes u y → inUnits u < H-at y → RightB u y (byB u y)
-unfolding byB lowerOfPair upperOfPair
-by-b-right u y a l =
+-- what the p and the P of a pair show of its viscosities
+pub lower-viscosity : (u y : ℕ) → Passes u y → inUnits u < H-at y
+    → y ^ lowerOfPair u y * inUnits u ^ Q ≤ 1000 ^ lowerOfPair u y * H-at y ^ Q
+unfolding lowerOfPair
+lower-viscosity u y a l = lower-shows y (inUnits u) (H-at y) (log2Of y) (log2Of (inUnits u)) (log2Of (H-at y)) (logarithms u y a l)
+
+pub upper-viscosity : (u y : ℕ) → Passes u y → inUnits u < H-at y
+    → 1000 ^ upperOfPair u y * H-at y ^ Q ≤ y ^ upperOfPair u y * inUnits u ^ Q
+unfolding lowerOfPair upperOfPair
+upper-viscosity u y a l =
     let o = logarithms u y a l in
-    let ly = log2Of y in
-    let lU = log2Of (inUnits u) in
-    let lH = log2Of (H-at y) in
-    let p = lowerFrom ly lU lH in
-    let P = upperFrom ly lU lH p in
+    upper-shows y (inUnits u) (H-at y) (log2Of y) (log2Of (inUnits u)) (log2Of (H-at y)) o _
+    (upper y (inUnits u) (H-at y) (log2Of y) (log2Of (inUnits u)) (log2Of (H-at y)) o)
+
+pub by-b-right : (u y : ℕ) → Passes u y → inUnits u < H-at y → RightB u y (byB u y)
+unfolding byB
+by-b-right u y a l =
+    let p = lowerOfPair u y in
+    let P = upperOfPair u y in
     let f = pair-numerators u y a l in
     let b = chosenIndex p P in
     let r = right-index p P (f .lower-fits) (f .next) in
@@ -50,8 +60,8 @@ by-b-right u y a l =
       most = r .most;
       marked =
           marked u y (b .index) (b .lower) (b .upper)
-          (subst (λ (k : ℕ). y ^ k * inUnits u ^ Q ≤ 1000 ^ k * H-at y ^ Q) (sym (n .0)) (lower-shows y (inUnits u) (H-at y) ly lU lH o))
-          (subst (λ (k : ℕ). 1000 ^ k * H-at y ^ Q ≤ y ^ k * inUnits u ^ Q) (sym (n .1)) (upper-shows y (inUnits u) (H-at y) ly lU lH o P (upper y (inUnits u) (H-at y) ly lU lH o)))
+          (subst (λ (k : ℕ). y ^ k * inUnits u ^ Q ≤ 1000 ^ k * H-at y ^ Q) (sym (n .0)) (lower-viscosity u y a l))
+          (subst (λ (k : ℕ). 1000 ^ k * H-at y ^ Q ≤ y ^ k * inUnits u ^ Q) (sym (n .1)) (upper-viscosity u y a l))
           (b .mark) (r .shown);
     }
 

@@ -17,7 +17,8 @@ pub record StarredExamples : Type 0 where
   pub a-92 : answerOf 73300 8860 ≡ A (pos 92)
   -- "(53470, 7080): A 87."
   pub a-87 : answerOf 53470 7080 ≡ A (pos 87)
-  -- "(28490, 5000): A 100."
+  -- "(28490, 5000): A 100." U is H
+  pub at-h : inUnits 28490 ≡ H-at 5000
   pub a-100 : answerOf 28490 5000 ≡ A (pos 100)
   -- "(7986, 2000): exactly 0.5, A 1." 100·(L − U) is half of L − H
   pub half-exact : 200 * (L-at 2000 - inUnits 7986) ≡ L-at 2000 - H-at 2000
@@ -27,5 +28,6 @@ pub record StarredExamples : Type 0 where
   pub negative-half : answerOf 8018 2000 ≡ A (negsuc 0)
   -- "(1000000000, 2000): A −62,499,500."
   pub thickest : answerOf 1000000000 2000 ≡ A (negsuc 62499499)
-  -- "(6188000, 100000): A 50."
+  -- "(6188000, 100000): A 50." It is exactly 50: L − U is half of L − H
+  pub above-70-exact : 2 * (L-at 100000 - inUnits 6188000) ≡ L-at 100000 - H-at 100000
   pub above-70 : answerOf 6188000 100000 ≡ A (pos 50)

@@ -9,3 +9,6 @@ pub mod ChosenFractions
 pub mod Preconditions
 pub mod Examples
 pub mod Consistent
+pub mod Determined
+pub mod Order
+pub mod ForcedAnswers

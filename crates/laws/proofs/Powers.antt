@@ -1,10 +1,10 @@
 -- Laws of powers whose exponents are variables, so that a crate can use them at an exponent that no check may compute.
 use mathlib.Core.Path.{_≡_, refl, sym, ap, _∙_, subst, subst₂}
 use Prim.Native.Nat.{ℕ, zero, suc, _+_, _*_, _-_, _^_, _≤_, _<_}
-use native.Mathlib.Nat.{le-refl, lt-of-not-le, mul-assoc, mul-comm, mul-left-comm, mul-one, one-mul, mul-zero, zero-mul, add-zero, mul-suc, suc-mul, add-mul, mul-add, pow-zero, pow-suc, pow-lt-pow-left, pow-le-pow-left, mul-le-mul-left, mul-le-mul-right, le-of-mul-le-mul-left, le-of-mul-le-mul-right, mul-pos, one-le-pow}
+use native.Mathlib.Nat.{le-refl, lt-of-not-le, mul-assoc, mul-comm, mul-left-comm, mul-one, one-mul, mul-zero, zero-mul, add-zero, mul-suc, suc-mul, add-mul, mul-add, pow-zero, pow-suc, pow-lt-pow-left, pow-le-pow-left, mul-le-mul-left, mul-le-mul-right, le-of-mul-le-mul-left, le-of-mul-le-mul-right, one-le-pow, pow-le-pow-right}
 use native.Mathlib.Decide.{decLe}
 use native.Mathlib.Omega.{arith}
-use lib.Pow.{pow-add, pow-lt}
+use lib.Pow.{pow-add}
 use Rattle.laws.proofs.Order.{by-order}
 
 -- Products multiplied out and sorted, so that omega reads what is left as a sum of unknowns: `simp ring (omega (arith, simp ring at h))`.
@@ -50,33 +50,50 @@ root {x} {y} n h p = go (decLe x y)
         let q : y ^ n < x ^ n = pow-lt-pow-left (lt-of-not-le l) (λ e. absurd (let z : 0 < 0 = subst (λ (k : ℕ). 0 < k) e h in omega arith)) in
         absurd (omega arith)
 
--- an order of powers of two is one of their exponents
-pub exponents-le : (a b : ℕ) → 2 ^ a ≤ 2 ^ b → a ≤ b
-exponents-le a b h = go (decLe a b)
-  where
-    go : Dec (a ≤ b) → a ≤ b
-    go (yes l) = l
-    go (no l) = let q : 2 ^ b < 2 ^ a = pow-lt (lt-of-not-le l) in absurd (omega arith)
+-- an order of powers of one base is one of their exponents
+pub exponents-le : (x a b : ℕ) → 1 < x → x ^ a ≤ x ^ b → a ≤ b
+exponents-le x a b base h =
+    by-order b a
+    (λ more.
+    let up : x ^ suc b ≤ x ^ a = pow-le-pow-right (omega arith) more in
+    let twice : x ^ b * 2 ≤ x ^ b * x = mul-le-mul-left (x ^ b) base in
+    absurd (omega (arith, rw pow-suc at up, one-le-pow b x (omega arith))))
+    (λ most. most)
 
--- The order of exponents from orders of powers: if (y / x)^p * u ≤ h and h ≤ (y / x)^P * u, with y above x, then p ≤ P. In the algebra every
--- power is a variable: A = y^P, B = x^P, a = y^s, b = x^s, where P + s = p.
-exponents-algebra : (A B a b u h : ℕ) → 0 < A * u → A * a * u ≤ B * b * h → B * h ≤ A * u → a ≤ b
-exponents-algebra A B a b u h z i j =
-    le-of-mul-le-mul-right {k = A * u} (simp ring (omega (arith, simp ring at i, simp ring at (mul-le-mul-left b j)))) z
+-- Powers of two quotients compared: (y / x)^p * v ≤ h and h ≤ (y / x)^P * u, where P ≤ p. In the algebra every power is a variable:
+-- A = y^P, B = x^P, a = y^s, b = x^s, where P + s = p.
+quotients-algebra : (A B a b u v h : ℕ) → 0 < A → A * a * v ≤ B * b * h → B * h ≤ A * u → a * v ≤ b * u
+quotients-algebra A B a b u v h z i j =
+    le-of-mul-le-mul-left {k = A} (omega (arith, simp ring at i, simp ring at (mul-le-mul-left b j))) z
 
+quotients : (x y u v h p P : ℕ) → x < y → P ≤ p → y ^ p * v ≤ x ^ p * h → x ^ P * h ≤ y ^ P * u → y ^ (p - P) * v ≤ x ^ (p - P) * u
+quotients x y u v h p P base order low high =
+    let e : P + (p - P) ≡ p = omega arith in
+    let i : y ^ P * y ^ (p - P) * v ≤ x ^ P * x ^ (p - P) * h =
+    subst₂ (λ (s t : ℕ). s * v ≤ t * h) (ap (λ (k : ℕ). y ^ k) (sym e) ∙ pow-add y P (p - P)) (ap (λ (k : ℕ). x ^ k) (sym e) ∙ pow-add x P (p - P)) low in
+    quotients-algebra (y ^ P) (x ^ P) (y ^ (p - P)) (x ^ (p - P)) u v h (one-le-pow P y (omega arith)) i high
+
+-- the order of exponents: with y above x and equal u, p ≤ P
 pub exponents-in-order :
     (x y u h p P : ℕ) → x < y → 0 < u → y ^ p * u ≤ x ^ p * h → x ^ P * h ≤ y ^ P * u → p ≤ P
 exponents-in-order x y u h p P base some low high =
     by-order P p
     (λ more.
-    let e : P + (p - P) ≡ p = omega arith in
-    let i : y ^ P * y ^ (p - P) * u ≤ x ^ P * x ^ (p - P) * h =
-    subst₂ (λ (v w : ℕ). v * u ≤ w * h) (ap (λ (k : ℕ). y ^ k) (sym e) ∙ pow-add y P (p - P)) (ap (λ (k : ℕ). x ^ k) (sym e) ∙ pow-add x P (p - P)) low in
-    let l : y ^ (p - P) ≤ x ^ (p - P) =
-    exponents-algebra (y ^ P) (x ^ P) (y ^ (p - P)) (x ^ (p - P)) u h (mul-pos (one-le-pow P y (omega arith)) some) i high in
+    let l : y ^ (p - P) ≤ x ^ (p - P) = le-of-mul-le-mul-right {k = u} (quotients x y u u h p P base (omega arith) low high) some in
     let m : x ^ (p - P) < y ^ (p - P) = pow-lt-pow-left base (λ z. omega arith) in
     absurd (omega arith))
     (λ most. most)
+
+-- and with a greater v on the side of p, p < P
+pub exponents-apart :
+    (x y u v h p P : ℕ) → 0 < x → x < y → u < v → y ^ p * v ≤ x ^ p * h → x ^ P * h ≤ y ^ P * u → p < P
+exponents-apart x y u v h p P some base more low high =
+    by-order p P (λ less. less)
+    (λ order.
+    let l : y ^ (p - P) * v ≤ x ^ (p - P) * u = quotients x y u v h p P base order low high in
+    let m : x ^ (p - P) * v ≤ y ^ (p - P) * v = mul-le-mul-right v (pow-le-pow-left (omega arith) (p - P)) in
+    let n : x ^ (p - P) * suc u ≤ x ^ (p - P) * v = mul-le-mul-left (x ^ (p - P)) more in
+    absurd (omega (arith, l, m, rw mul-suc at n, one-le-pow (p - P) x some)))
 
 -- ---- powers of a sum against a straight line
 

@@ -32,7 +32,7 @@ pub logs-le :
     (S p q x y z w a b C D : ℕ) → 2 ^ a ≤ x ^ S → 2 ^ b ≤ y ^ S → z ^ S ≤ 2 ^ C → w ^ S ≤ 2 ^ D
     → x ^ p * y ^ q ≤ z ^ p * w ^ q → a * p + b * q ≤ C * p + D * q
 logs-le S p q x y z w a b C D hx hy hz hw h =
-    exponents-le _ _
+    exponents-le 2 _ _ (omega arith)
     (le-trans (le-of-eq (sym (twos a b p q)))
     (le-trans (mul-le-mul (pow-le-pow-left hx p) (pow-le-pow-left hy q))
     (le-trans (le-of-eq (sym (raised x y p q S)))

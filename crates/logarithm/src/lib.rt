@@ -142,7 +142,7 @@ pub fn second_table() -> [u32; LOG_TABLE_SIZE]
     SECOND
 }
 
-// The scaled logarithm of x. It asks for what it needs because it is an inner layer, and no operation that a customer reaches.
+// The scaled logarithm of x. An inner function, for callers that know x to be in its range and hold the two lent tables.
 pub fn log2_scaled(first: &[u32; LOG_TABLE_SIZE], second: &[u32; LOG_TABLE_SIZE], x: u64) -> u64
     requires lent { ⌜ LentLogarithms (now first) (now second) ⌝ }
     requires range { ⌜ InRange x ⌝ }

@@ -1,9 +1,9 @@
--- The starred examples of document 01 about L and H, and the rows that it names, computed from the definitions.
+-- The starred examples of document 01 about L and H, the quadratics by hand and the rows where the sources differ, computed from the definitions.
 use mathlib.Core.Path.{refl}
 use lib.Dec.{lit<}
 use Rattle.reference.specs.Table1.{table1}
 use Rattle.reference.specs.Basis.{entry, atPlace, L-at, H-at}
-use Rattle.reference.specs.Examples.{StarredBasis, KnownDifferences}
+use Rattle.reference.specs.Examples.{StarredBasis, QuadraticsByHand, KnownDifferences}
 
 pub starred-basis : StarredBasis
 unfolding L-at H-at atPlace entry table1
@@ -18,6 +18,18 @@ starred-basis =
       below-70 = lit< tt;
     }
 
+pub quadratics-by-hand : QuadraticsByHand
+unfolding L-at H-at
+quadratics-by-hand = record { l-100 = refl; h-100 = refl; l-200 = refl; h-200 = refl; l-500 = refl; h-500 = refl }
+
 pub known-differences : KnownDifferences
 unfolding entry table1
-known-differences = record { row-39 = (refl, refl); row-21-8 = (refl, refl); row-45-5 = (refl, refl, refl) }
+known-differences =
+    record {
+      row-39 = (refl, refl);
+      row-21-8 = (refl, refl);
+      row-45-5 = (refl, refl, refl);
+      row-7-5 = (refl, refl);
+      row-24-2 = (refl, refl);
+      row-70 = (refl, refl);
+    }

@@ -27,10 +27,15 @@ every-row-rises : T (upTo risingRow lastRowAt)
 unfolding risingRow riseL riseH riseDifference entry table1
 every-row-rises = tt
 
+first-row-apart : rowH 0 + leastRowDifference ≤ rowL 0
+unfolding entry table1
+first-row-apart = leb→le _ _ tt
+
 pub table-rises : TableRises
 unfolding risingRow riseL riseH riseDifference
 table-rises =
     record {
+      first = omega (arith, first-row-apart);
       rises = λ i h.
           let t = below risingRow lastRowAt every-row-rises i h in
           let u = and-right (riseL i) (riseH i && riseDifference i) t in
@@ -40,10 +45,6 @@ table-rises =
             l-less-h = ltb→lt (rowL i - rowH i) (rowL (i + 1) - rowH (i + 1)) (and-right (riseH i) (riseDifference i) u);
           };
     }
-
-first-row-apart : rowH 0 + leastRowDifference ≤ rowL 0
-unfolding entry table1
-first-row-apart = leb→le _ _ tt
 
 -- H is at least 1.6 mm²/s below L at every row: it is at the first, and L − H rises
 pub rows-apart : (i : ℕ) → i < rowCount → rowH i + leastRowDifference ≤ rowL i

@@ -8,6 +8,7 @@ pub record RisesFrom (i : ℕ) : Type 0 where
   pub h : rowH i < rowH (i + 1)
   pub l-less-h : rowL i - rowH i < rowL (i + 1) - rowH (i + 1)
 
--- every row but the last has a next one
+-- every row but the last has a next one; and at the first row L is above H, so that the rise of L − H says it of every row
 pub record TableRises : Type 0 where
+  pub first : rowH 0 < rowL 0
   pub rises : (i : ℕ) → i < lastRowAt → RisesFrom i

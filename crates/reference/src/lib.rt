@@ -258,7 +258,7 @@ pub struct Basis {
     pub h: u64,
 }
 
-// L and H at y, for callers that have asked y's questions. The table is copied only for a y that stands in it.
+// L and H at y. An inner function, for callers that have asked y's questions. The table is copied only for a y that stands in it.
 pub fn basis_of(y: Kv100) -> Basis
     requires { ⌜ (least100 ≤ y .thousandths) × (y .thousandths ≤ greatest100) ⌝ }
     ensures { λ r. ⌜ r ≡ basisOf (y .thousandths) ⌝ }

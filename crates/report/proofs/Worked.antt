@@ -89,6 +89,9 @@ module _ (s : List ℕ) where
   unfolding inputAfter
   too-long-kept h = rw (lt-leb _ _ h)
 
+  pub too-long-not : {P : Type 0} → mostInput < length s → length s ≤ mostInput → P
+  too-long-not h k = absurd (omega arith)
+
   module _ (h : length s ≤ mostInput) where
     by-answer : (a : SheetAnswer) → sheetAnswerOf s ≡ a → textBy s a ≡ printed s
     unfolding printed textOf

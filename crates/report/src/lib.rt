@@ -5,11 +5,12 @@ ghost use mathlib.Core.List.{_++_};
 ghost use Prim.Native.Nat.{_+_, _*_, _≤_};
 ghost use lib.ListN.{length};
 ghost use Rattle.sheet.specs.Sheet.{pairsOf, resultsOf};
+ghost use Rattle.sheet.specs.Demand3.{Demand3};
 ghost use Rattle.sheet.specs.Preconditions.{BlocksWithin};
 ghost use Rattle.text_fields.specs.Put.{Put};
 ghost use Rattle.text_lines.specs.Lines.{firstLine};
 ghost use Rattle.text_lines.specs.Widths.{lineWidth};
-ghost use Rattle.report.specs.Text.{printed, textAfter, inputAfter};
+ghost use Rattle.report.specs.Text.{mostInput, printed, textAfter, inputAfter};
 ghost use Rattle.report.specs.Widths.{textWidth};
 ghost use Rattle.report.specs.FromRecords.{linesAt};
 ghost use Rattle.report.specs.Preconditions.{Readable};
@@ -71,6 +72,7 @@ pub fn print_sheet(sheet: &mut [u8], text: &mut [u8; TEXT_SIZE]) -> usize
     ensures within { λ r. ⌜ r ≤ length (now (text .exit)) ⌝ }
     ensures bytes { λ _. ⌜ now (text .exit) ≡ textAfter (now (sheet .entry)) (now (text .entry)) ⌝ }
     ensures sheet { λ _. ⌜ now (sheet .exit) ≡ inputAfter (now (sheet .entry)) ⌝ }
+    ensures demand3 { λ _. ⌜ (length (now (sheet .entry)) ≤ mostInput → Demand3 (now (sheet .entry)) (now (sheet .exit))) ⌝ }
 {
     if sheet.len() > MOST_INPUT {
         return text_lines::put_sheet_refused(text, TOO_LONG);

@@ -1,10 +1,10 @@
--- Demand 3: each record of the worked sheet is its own pair's, its fields read back are the answer's, and the answer's laws say the rest.
+-- Demand 3: each record of the worked sheet is its own pair's. The rest follows from that alone.
 use Prim.Native.Nat.{ℕ, _≤_, _<_}
-use mathlib.Core.Path.{_≡_, refl, _∙_}
+use mathlib.Core.Path.{_≡_, refl, _∙_, subst}
 use mathlib.Core.List.{List}
 use mathlib.Core.Logic.{_⊎_, inl, inr}
 use native.Mathlib.Omega.{arith}
-use native.Mathlib.Nat.{le-of-lt}
+use lib.Signed.{_≤ℤ_}
 use Rattle.reference.specs.Basis.{H-at}
 use Rattle.reference.specs.Viscosity.{inUnits}
 use Rattle.shown_index.specs.declared.Mark.{Mark}
@@ -14,11 +14,13 @@ use Rattle.index.specs.declared.answer.Answer.the-variants.{Refused, A, B}
 use Rattle.index.specs.ProcedureB.{SettledAt, NearAt, Marked}
 use Rattle.index.specs.Answer.{methodOfMark, RightAnswer}
 use Rattle.index.proofs.Right.{right}
-use Rattle.index.proofs.Order.{never-rises}
-use Rattle.answer_record.proofs.Fields.{FieldsRead}
+use Rattle.index.proofs.Fits.{right-fits}
+use Rattle.index.proofs.Order.{in-order}
+use Rattle.answer_record.specs.Record.{RecordOfPair}
+use Rattle.answer_record.proofs.Fields.{FieldsRead, fields-read}
 use Rattle.sheet.specs.Sheet.{sheetRefusal, sheetAfter}
-use Rattle.sheet.specs.Demand3.{u, y, offset, Answered, BelowH, Shown, AfterTheCall, Demand3}
-use Rattle.sheet.proofs.RecordsAfter.{record-found, record-read}
+use Rattle.sheet.specs.Demand3.{n, u, y, offset, bytes, index, Answered, BelowH, MarkedNear, Shown, AfterTheCall, Demand3}
+use Rattle.sheet.proofs.RecordsAfter.{record-found}
 
 by-mark : (m : Mark) (u y k p P : ℕ) → Marked m u y k p P
     → ((methodOfMark m ≡ methodOfMark mark.Settled) × SettledAt u y k p P) ⊎ ((methodOfMark m ≡ methodOfMark mark.Near) × NearAt u y k p P)
@@ -38,14 +40,26 @@ shown before after i (A index) f r q h =
 shown before after i (B b) f r q h =
     record { k = b .index; index-is = f .index; marked = rw (f .method, f .lower, f .upper) (by-mark (b .mark) _ _ _ _ _ (r .case .marked)) }
 
+-- the first sentence of demand 3 gives the other two: an answer that is right fits its fields, so that the record's own bytes say what is right
+module _ (before after : List ℕ) (records : (i : ℕ) → i < n before after → RecordOfPair (u before after i) (y before after i) (bytes before after i)) where
+  pub read : (i : ℕ) (h : i < n before after) → FieldsRead after (offset before after i) (records i h .answer)
+  read i h = let r = records i h in fields-read after (offset before after i) (r .answer) (r .laid-out) (right-fits _ _ (r .answer) (r .right))
+
+  falls : (i j : ℕ) → i < n before after → j < n before after → Answered before after i → Answered before after j
+      → y before after i ≡ y before after j → (MarkedNear before after i → ⊥) → (MarkedNear before after j → ⊥)
+      → u before after i < u before after j → index before after j ≤ℤ index before after i
+  falls i j h k a b e c d l =
+      rw (read i h .index, read j k .index)
+      (in-order .right (u before after i) (u before after j) (y before after j) (records i h .answer) (records j k .answer)
+      (subst (λ (w : ℕ). RightAnswer (u before after i) w (records i h .answer)) e (records i h .right)) (records j k .right)
+      (rw e at a) b (λ m. c (read i h .method ∙ m)) (λ m. d (read j k .method ∙ m)) l)
+
+  pub all-follow : AfterTheCall before after
+  all-follow = record { records = records; below = λ i h. shown before after i _ (read i h) (records i h .right); order = falls }
+
 after-the-call : (s : List ℕ) → sheetRefusal s ≡ 0 → AfterTheCall s (sheetAfter s)
-after-the-call s q = record {
-  records = λ i h. record { answer = _; alone = refl; right = right _ _; laid-out = record-found s q i h };
-  below = λ i h. shown s (sheetAfter s) i _ (record-read s q i h) (right _ _);
-  order = λ i j h k a b e m n l.
-      rw (record-read s q i h .index, record-read s q j k .index, e)
-      (never-rises _ _ _ (le-of-lt l) (rw e at a) b);
-}
+after-the-call s q =
+    all-follow s (sheetAfter s) (λ i h. record { answer = _; alone = refl; right = right _ _; laid-out = record-found s q i h })
 
 pub demand3 : (before after : List ℕ) → after ≡ sheetAfter before → Demand3 before after
 demand3 before after e q = rw e (after-the-call before q)

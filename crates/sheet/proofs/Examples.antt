@@ -1,9 +1,24 @@
 -- The sheets of document 01's 'Pairs and sheets to try', computed from the definitions.
-use mathlib.Core.Path.{refl}
+use Prim.Native.Nat.{ℕ, _*_}
+use mathlib.Core.Path.{_≡_, refl}
+use mathlib.Core.List.{List}
+use lib.ListN.{length}
 use Rattle.answer_record.specs.Bytes.{numberAt, bytesOf}
+use Rattle.sheet.specs.declared.SheetAnswer.the-variants.{Refused, Accepted}
 use Rattle.sheet.specs.Sheet.{standsWithin, shareNoByte, sheetRefusal, recordsOf, sheetAnswerOf, sheetAfter}
-use Rattle.sheet.specs.Examples.{TriedSheets}
+use Rattle.sheet.specs.Examples.{TriedSheets, sheetOf, GreatestSheet}
 
 pub tried-sheets : TriedSheets
 unfolding sheetAnswerOf sheetAfter recordsOf sheetRefusal standsWithin shareNoByte numberAt bytesOf
 tried-sheets = record { accepted = refl; unchanged = refl; pair-offset = refl; result-offset = refl }
+
+full : (blocks : List ℕ) → length blocks ≡ 24 * 2000 → sheetAnswerOf (sheetOf 2000 blocks) ≡ Accepted 2000
+unfolding sheetAnswerOf sheetRefusal standsWithin shareNoByte numberAt bytesOf
+full blocks e = rw e refl
+
+one-more : (blocks : List ℕ) → length blocks ≡ 24 * 2001 → sheetAnswerOf (sheetOf 2001 blocks) ≡ Refused 13
+unfolding sheetAnswerOf sheetRefusal standsWithin shareNoByte numberAt bytesOf
+one-more blocks e = rw e refl
+
+pub greatest-sheet : GreatestSheet
+greatest-sheet = record { full = full; one-more = one-more }

@@ -7,3 +7,4 @@ pub mod Worked
 pub mod RecordsAfter
 pub mod Demand3
 pub mod Examples
+pub mod Forced

@@ -2,4 +2,5 @@
 pub mod Sheet
 pub mod Demand3
 pub mod Examples
+pub mod Forced
 pub mod Preconditions

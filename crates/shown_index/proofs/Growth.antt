@@ -44,7 +44,7 @@ pub apart : (x z a B : ℕ) → 0 < x → x ≤ greatestC → x + 715 ≤ z → 
 apart x z a B p h l below above =
     let e : x + (z - x) ≡ z = omega arith in
     let g : 2 ^ growth * x ^ scale ≤ z ^ scale = subst (λ (n : ℕ). 2 ^ growth * x ^ scale ≤ n ^ scale) e (grows x (z - x) p h (omega arith)) in
-    exponents-le (growth + a) B (le-trans (le-of-eq (pow-add 2 growth a)) (le-trans (mul-le-mul-left (2 ^ growth) below) (le-trans g above)))
+    exponents-le 2 (growth + a) B (omega arith) (le-trans (le-of-eq (pow-add 2 growth a)) (le-trans (mul-le-mul-left (2 ^ growth) below) (le-trans g above)))
 
 -- every c that is looked at has an enclosed logarithm
 pub c-range : (r : ℕ) → leastR ≤ r → r ≤ mostR → InRange (c r)

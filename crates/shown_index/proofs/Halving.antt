@@ -36,7 +36,7 @@ log-below-least = apart (c belowLeast) 10000000 (log2Of (c belowLeast)) (log1000
 -- a lower logarithm of x and an upper one of z, scaled by S, where twice the n-th power of x is at most the k-th power of z
 twice-below : (S l x n z k B : ℕ) → 2 ^ l ≤ x ^ S → z ^ S ≤ 2 ^ B → 2 * x ^ n ≤ z ^ k → l * n + S ≤ B * k
 twice-below S l x n z k B hx hz h =
-    exponents-le (l * n + S) (B * k)
+    exponents-le 2 (l * n + S) (B * k) (omega arith)
     (le-trans (le-of-eq (pow-add 2 (l * n) S ∙ ap (λ (m : ℕ). m * 2 ^ S) (pow-mul 2 l n)))
     (le-trans (mul-le-mul-right (2 ^ S) (pow-le-pow-left hx n))
     (le-trans (le-of-eq (ap (λ (m : ℕ). m * 2 ^ S) (pow-swap x S n) ∙ mul-comm ((x ^ n) ^ S) (2 ^ S) ∙ sym (mul-pow 2 (x ^ n) S)))

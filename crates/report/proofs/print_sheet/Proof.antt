@@ -1,7 +1,7 @@
 -- By the length of the input, and then by the answer to the sheet.
 use mathlib.Core.Path.{sym, _∙_}
 use borrow.Author.Needs.{needs}
-use Rattle.report.proofs.Worked.{readable-by, too-long, too-long-kept, refused-printed, accepted-printed, worked-kept, put-whole}
+use Rattle.report.proofs.Worked.{readable-by, too-long, too-long-kept, too-long-not, refused-printed, accepted-printed, worked-kept, put-whole}
 use Rattle.report.proofs.print_sheet.Statement.{statement}
 use Rattle.report.proofs.print_sheet.Tie as tie
 
@@ -13,7 +13,7 @@ returns c =
     let at-if = c .before .before in
     let start = at-if .before .before in
     let whole = put-whole _ (start .args .text .now) (too-long _ (at-if .if1 .taken)) (c .put-sheet-refused .ensures) (search needs) in
-    (whole .count-is, (whole .within, (whole .bytes, too-long-kept _ (at-if .if1 .taken))))
+    (whole .count-is, (whole .within, (whole .bytes, (too-long-kept _ (at-if .if1 .taken), too-long-not (start .args .sheet .now) (at-if .if1 .taken)))))
 
 work-sheet-requires : tie.Need-work-sheet-requires
 work-sheet-requires c κs = search needs
@@ -46,7 +46,7 @@ returns-2 c =
     put-whole _ (start .args .text .now)
     (refused-printed _ (at-if .if1 .left) _ (sym (work .work-sheet .ensures .0) ∙ arm .number .given .1))
     (c .put-sheet-refused2 .ensures) (search needs) in
-    (whole .count-is, (whole .within, (whole .bytes, worked-kept _ (at-if .if1 .left) _ (work .work-sheet .ensures .1 .0))))
+    (whole .count-is, (whole .within, (whole .bytes, (worked-kept _ (at-if .if1 .left) _ (work .work-sheet .ensures .1 .0), λ h. work .work-sheet .ensures .1 .1))))
 
 same-length-2 : tie.Need-same-length-2
 same-length-2 c = search needs
@@ -61,7 +61,7 @@ returns-3 c =
     put-whole _ (start .args .text .now)
     (accepted-printed _ (at-if .if1 .left) _ _ (work .work-sheet .ensures .1 .0) (sym (work .work-sheet .ensures .0) ∙ arm .n .given .1))
     (c .put-pairs .ensures) (search needs) in
-    (whole .count-is, (whole .within, (whole .bytes, worked-kept _ (at-if .if1 .left) _ (work .work-sheet .ensures .1 .0))))
+    (whole .count-is, (whole .within, (whole .bytes, (worked-kept _ (at-if .if1 .left) _ (work .work-sheet .ensures .1 .0), λ h. work .work-sheet .ensures .1 .1))))
 
 pub print-sheet-spec : {M : Type 1} → statement M
 print-sheet-spec =

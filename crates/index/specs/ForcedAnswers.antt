@@ -1,0 +1,29 @@
+-- What the definitions force, with no program in it: the answers to three pairs of document 01, from `RightAnswer` alone. Whoever answers otherwise is
+-- refuted, whatever proof he offers. proofs/ForcedAnswers.antt shows it. What it means for a sheet stands in crate sheet (Forced.antt).
+use Prim.Native.Nat.{ℕ, _≤_}
+use mathlib.Core.Path.{_≡_}
+use lib.IntN.{ℤ, pos}
+use Rattle.shown_index.specs.declared.Mark.the-variants as mark
+use Rattle.index.specs.declared.answer.Answer.{Answer}
+use Rattle.index.specs.declared.answer.Answer.the-variants.{Refused, A}
+use Rattle.index.specs.ProcedureB.{SettledAt}
+use Rattle.index.specs.Answer.{methodOfMark, methodOf, indexOf, lowerOf, upperOf, RightAnswer}
+
+-- what is forced of (22830, 5050), an oil below H: the method and the index; and of p and P, which document 01 leaves free, that the powers of both show
+-- the index, and between which numbers they lie
+pub record Forced156 (method : ℕ) (index : ℤ) (p P : ℕ) : Type 0 where
+  pub settled : method ≡ methodOfMark mark.Settled
+  pub index-is : index ≡ pos 156
+  pub shown : SettledAt 22830 5050 156 p P
+  pub lower-least : 2435078 ≤ p
+  pub lower-most : p ≤ 2469441
+  pub upper-least : 2469440 ≤ P
+  pub upper-most : P ≤ 2472281
+
+pub record ForcedAnswers : Type 0 where
+  -- "(73300, 8860): A 92."
+  pub by-a : (a : Answer) → RightAnswer 73300 8860 a → a ≡ A (pos 92)
+  -- "(22830, 5050): B 156."
+  pub by-b : (a : Answer) → RightAnswer 22830 5050 a → Forced156 (methodOf a) (indexOf a) (lowerOf a) (upperOf a)
+  -- y 1999: refused 1
+  pub refused : (a : Answer) → RightAnswer 20000 1999 a → a ≡ Refused 1
