@@ -1,6 +1,7 @@
 /* Checks the records of a worked sheet from its bytes alone.
 
      audit [--quick] [--record I]... [--sample N] [--seed S] SHEET
+     audit --help
 
    Nothing of the library is used: the table is the one read from the printed
    standard, L, H and procedure A are whole numbers of GMP, and for procedure B
@@ -11,12 +12,26 @@
    --quick encloses both sides' logarithms with MPFR, and works out the powers
    only where the enclosures do not decide.
 
-   Without --record or --sample every record is checked. Exit code 0: all
-   records checked are right; 1: some is not; 2: the sheet could not be read. */
+   Records are counted from 0: --record 0 checks the first. --sample draws N
+   records, none twice, and all where the sheet has no more. Without --record and
+   --sample every record is checked; one that is chosen twice is checked once.
+
+   Exit code 0: every record checked is right; 1: some is not; 2: nothing was
+   checked, or the report could not be written. Standard error has the reason.
+   Nothing is checked where an option or its number cannot be read, the file
+   cannot be read, or the sheet is refused, has no records, has not the record
+   that is named, or is not worked.
+
+   Not worked: in every record of the sheet number and method are both 0, or one
+   of them is greater than any there is. No pair has such a record: the sheet was
+   not worked, or a library left the block so, and the bytes do not tell which.
+   Where one record is otherwise, the sheet counts as worked. */
 #define _DEFAULT_SOURCE
+#include <errno.h>
 #include <gmp.h>
 #include <inttypes.h>
 #include <mpfr.h>
+#include <stdarg.h>
 #include <stdbool.h>
 #include <stdint.h>
 #include <stdio.h>
@@ -26,12 +41,36 @@
 #include <time.h>
 
 enum { Q = 16777216, ROWS = 311, RECORD = 16, PAIR = 8, HEADER = 16, COUNT_GREATEST = 2000 };
+enum { RIGHT = 0, WRONG = 1, NOTHING_CHECKED = 2 }; /* exit codes */
+enum { NUMBER_GREATEST = 4, METHOD_GREATEST = 3 };
 
 static const struct { long y, l, h; } rows[ROWS] = {
 #include "table.h"
 };
 
 static bool quick;
+
+/* ---- no audit ---- */
+
+__attribute__((noreturn, format(printf, 1, 2))) static void stop(const char *format, ...)
+{
+    va_list words;
+    va_start(words, format);
+    fprintf(stderr, "audit: nothing was checked: ");
+    vfprintf(stderr, format, words);
+    fprintf(stderr, "\n");
+    va_end(words);
+    exit(NOTHING_CHECKED);
+}
+
+/* Asked after each record, so that no long run goes on for nothing. */
+static void ask_output(void)
+{
+    if (ferror(stdout) == 0 && fflush(stdout) == 0)
+        return;
+    fprintf(stderr, "audit: the report could not be written: %s\n", strerror(errno));
+    exit(NOTHING_CHECKED);
+}
 
 /* ---- time and memory ---- */
 
@@ -402,30 +441,43 @@ static int sheet_question(struct sheet *s)
     return n > 0 && p < r + RECORD * n && r < p + PAIR * n ? 16 : 0;
 }
 
-static bool read_sheet(const char *path, struct sheet *s)
+static void read_sheet(const char *path, struct sheet *s)
 {
     static uint8_t room[1 << 24];
     FILE *file = fopen(path, "rb");
     if (file == NULL)
-        return false;
+        stop("%s: %s", path, strerror(errno));
     s->bytes = room;
     s->length = fread(room, 1, sizeof room, file);
-    bool whole = feof(file) != 0;
+    if (ferror(file))
+        stop("%s: %s", path, strerror(errno));
+    if (!feof(file))
+        stop("%s: the file is longer than 16,777,215 bytes", path);
     fclose(file);
-    return whole;
+}
+
+static const uint8_t *record_of(const struct sheet *s, uint32_t i)
+{
+    return s->bytes + s->results + RECORD * i;
+}
+
+/* Whether some record may be that of a pair, by its number and method alone. */
+static bool worked(const struct sheet *s)
+{
+    for (uint32_t i = 0; i < s->n; i++) {
+        const uint8_t *r = record_of(s, i);
+        if (r[0] <= NUMBER_GREATEST && r[1] <= METHOD_GREATEST && (r[0] != 0 || r[1] != 0))
+            return true;
+    }
+    return false;
 }
 
 static int failures, checked;
 
 static void audit_record(const struct sheet *s, uint32_t i)
 {
-    if (i >= s->n) {
-        printf("record %" PRIu32 ": the sheet has %" PRIu32 "\n", i, s->n);
-        failures++;
-        return;
-    }
     printf("record %" PRIu32 "\n", i);
-    const char *wrong = audit_pair(s->bytes + s->pairs + PAIR * i, s->bytes + s->results + RECORD * i);
+    const char *wrong = audit_pair(s->bytes + s->pairs + PAIR * i, record_of(s, i));
     checked++;
     if (wrong != NULL) {
         printf("  REFUSED: record %" PRIu32 ": %s\n", i, wrong);
@@ -433,80 +485,145 @@ static void audit_record(const struct sheet *s, uint32_t i)
     } else {
         printf("  right\n");
     }
+    ask_output();
+}
+
+static const char *records(uint32_t n)
+{
+    return n == 1 ? "record" : "records";
 }
 
 /* ---- the command ---- */
 
-struct wish { bool all; uint64_t sample, seed; uint32_t record[256]; int records; const char *path; };
+/* past: one more than the greatest record named, 0 if none is. */
+struct wish { bool help, chosen[COUNT_GREATEST]; uint64_t past, sample, seed; const char *path; };
 
-static bool number_after(int argc, char **argv, int *i, uint64_t *value)
+static void print_usage(void)
 {
-    char *end;
-    if (++*i >= argc)
-        return false;
-    *value = strtoull(argv[*i], &end, 10);
-    return *end == '\0' && end != argv[*i];
+    printf("usage: audit [--quick] [--record I]... [--sample N] [--seed S] SHEET\n"
+           "Checks the records of a worked sheet from its bytes alone, by whole-number powers.\n"
+           "\n"
+           "  --record I  checks record I; records are counted from 0; may be given again\n"
+           "  --sample N  checks N records drawn at random, none twice; all, where the sheet has no more\n"
+           "  --seed S    draws another sample; 1 if it is not given\n"
+           "  --quick     encloses logarithms with MPFR, and works out the powers only where that does not decide\n"
+           "  --help, -h  prints this\n"
+           "\n"
+           "Without --record and --sample every record is checked; one that is chosen twice is checked once.\n"
+           "\n"
+           "Exit codes:\n"
+           "  0  every record checked is right\n"
+           "  1  a record checked is wrong\n"
+           "  2  nothing was checked, or the report could not be written; standard error says why\n");
 }
 
-static bool read_wish(int argc, char **argv, struct wish *w)
+/* The number after the option *i, digits and nothing else; *i moves on to it. */
+static uint64_t number_after(char **argv, int *i, uint64_t least, uint64_t most)
+{
+    const char *option = argv[*i], *text = argv[++*i];
+    uint64_t value = 0;
+    bool fits = text != NULL && *text != '\0';
+    for (const char *c = text; fits && *c != '\0'; c++) {
+        uint64_t digit = (uint64_t)*c - '0';
+        fits = digit <= 9 && value <= (most - digit) / 10;
+        value = 10 * value + digit;
+    }
+    if (!fits || value < least)
+        stop("%s %s: a whole number from %" PRIu64 " to %" PRIu64 " is asked; audit --help", option,
+            text == NULL ? "without a number" : text, least, most);
+    return value;
+}
+
+static void choose(struct wish *w, uint64_t i)
+{
+    if (i < COUNT_GREATEST)
+        w->chosen[i] = true;
+    w->past = i >= w->past ? i + 1 : w->past;
+}
+
+static void read_wish(int argc, char **argv, struct wish *w)
 {
     for (int i = 1; i < argc; i++) {
-        uint64_t value = 0;
-        if (strcmp(argv[i], "--quick") == 0) {
+        if (strcmp(argv[i], "--help") == 0 || strcmp(argv[i], "-h") == 0)
+            w->help = true;
+        else if (strcmp(argv[i], "--quick") == 0)
             quick = true;
-        } else if (strcmp(argv[i], "--record") == 0) {
-            if (!number_after(argc, argv, &i, &value) || value > UINT32_MAX || w->records == 256)
-                return false;
-            w->record[w->records++] = (uint32_t)value;
-        } else if (strcmp(argv[i], "--sample") == 0) {
-            if (!number_after(argc, argv, &i, &w->sample))
-                return false;
-        } else if (strcmp(argv[i], "--seed") == 0) {
-            if (!number_after(argc, argv, &i, &w->seed))
-                return false;
-        } else if (argv[i][0] == '-' || w->path != NULL) {
-            return false;
-        } else {
+        else if (strcmp(argv[i], "--record") == 0)
+            choose(w, number_after(argv, &i, 0, UINT32_MAX));
+        else if (strcmp(argv[i], "--sample") == 0)
+            w->sample = number_after(argv, &i, 1, UINT32_MAX);
+        else if (strcmp(argv[i], "--seed") == 0)
+            w->seed = number_after(argv, &i, 0, UINT64_MAX);
+        else if (argv[i][0] == '-')
+            stop("%s is no option; audit --help", argv[i]);
+        else if (w->path != NULL)
+            stop("two sheets are named, %s and %s; audit --help", w->path, argv[i]);
+        else
             w->path = argv[i];
-        }
     }
-    w->all = w->records == 0 && w->sample == 0;
-    return w->path != NULL;
+}
+
+/* Stops where the sheet has nothing to check. */
+static void ask_sheet(struct sheet *s, const struct wish *w)
+{
+    int number = sheet_question(s);
+    if (number != 0)
+        stop("the sheet is refused, it fails question %d", number);
+    if (s->n == 0)
+        stop("the sheet has no records");
+    if (w->past > s->n)
+        stop("--record %" PRIu64 ": the sheet has %" PRIu32 " %s, counted from 0", w->past - 1, s->n, records(s->n));
+    if (!worked(s))
+        stop("the sheet is not worked: in every record number and method are both 0, or one is greater than any there is");
+}
+
+/* Chooses records at random, each from those that are left. */
+static void draw(const struct sheet *s, struct wish *w)
+{
+    uint32_t left[COUNT_GREATEST];
+    for (uint32_t i = 0; i < s->n; i++)
+        left[i] = i;
+    for (uint32_t count = s->n; count > s->n - w->sample; count--) {
+        w->seed = w->seed * 6364136223846793005u + 1442695040888963407u;
+        uint32_t i = (uint32_t)((w->seed >> 33) % count);
+        choose(w, left[i]);
+        left[i] = left[count - 1];
+    }
 }
 
 static void audit_chosen(const struct sheet *s, struct wish *w)
 {
-    for (uint32_t i = 0; w->all && i < s->n; i++)
-        audit_record(s, i);
-    for (int i = 0; i < w->records; i++)
-        audit_record(s, w->record[i]);
-    for (uint64_t i = 0; i < w->sample && s->n > 0; i++) {
-        w->seed = w->seed * 6364136223846793005u + 1442695040888963407u;
-        audit_record(s, (uint32_t)((w->seed >> 33) % s->n));
+    bool all = (w->past == 0 && w->sample == 0) || w->sample >= s->n;
+    if (w->sample >= s->n)
+        printf("audit: --sample %" PRIu64 ": the sheet has %" PRIu32 " %s, all are checked\n", w->sample, s->n, records(s->n));
+    else if (w->sample > 0) {
+        printf("audit: %" PRIu64 " of %" PRIu32 " records drawn, seed %" PRIu64 "\n", w->sample, s->n, w->seed);
+        draw(s, w);
     }
+    for (uint32_t i = 0; i < s->n; i++)
+        if (all || w->chosen[i])
+            audit_record(s, i);
 }
 
 int main(int argc, char **argv)
 {
-    struct wish w = { .seed = 1 };
+    static struct wish w = { .seed = 1 };
     struct sheet s;
     setvbuf(stdout, NULL, _IOLBF, 0);
-    if (!read_wish(argc, argv, &w)) {
-        fprintf(stderr, "usage: audit [--quick] [--record I]... [--sample N] [--seed S] SHEET\n");
-        return 2;
+    read_wish(argc, argv, &w);
+    if (w.help) {
+        print_usage();
+        ask_output();
+        return 0;
     }
-    if (!read_sheet(w.path, &s)) {
-        fprintf(stderr, "audit: cannot read %s\n", w.path);
-        return 2;
-    }
-    int number = sheet_question(&s);
-    if (number != 0) {
-        printf("audit: FAILED: no accepted sheet, it fails question %d\n", number);
-        return 1;
-    }
+    if (w.path == NULL)
+        stop("no sheet is named; audit --help");
+    read_sheet(w.path, &s);
+    ask_sheet(&s, &w);
     double start = seconds();
     audit_chosen(&s, &w);
-    printf("audit: %s: %d records checked, %d refused, %.1f s, at most %ld MB\n", failures == 0 ? "passed" : "FAILED",
-        checked, failures, seconds() - start, megabytes());
-    return failures == 0 ? 0 : 1;
+    printf("audit: %s: %d %s checked, %d refused, %.1f s, at most %ld MB\n", failures == 0 ? "passed" : "FAILED", checked,
+        records((uint32_t)checked), failures, seconds() - start, megabytes());
+    ask_output();
+    return failures == 0 ? RIGHT : WRONG;
 }

@@ -1,0 +1,167 @@
+#!/usr/bin/env bash
+# The audit passes nothing that it did not check: its usage, its options, the sheets that hold nothing to check, a report that cannot be
+# written. All in quick mode, a few seconds.
+set -u
+. "$(dirname "$0")/compare/common.sh"
+have_headers
+find_archive
+bash "$root/audit/build.sh" "$work/audit" || die "building the audit"
+build make_sheet "$root/tests/audit/make_sheet.c" "$archive"
+cd "$root" || die "no folder $root"
+ulimit -f 65536 # a run without end stops at 64 MiB
+checks=0
+bad=0
+
+# holds FILE PATTERN: some line matches; the file is empty where the pattern is.
+holds() {
+    if [ -z "$2" ]; then [ ! -s "$1" ]; else grep -q -e "$2" "$1"; fi
+}
+
+# expect WHAT STATUS OUT ERR COMMAND ..: the exit status, a pattern of a line of standard output, one of standard error.
+expect() {
+    local what=$1 status=$2 out=$3 err=$4 got
+    shift 4
+    checks=$((checks + 1))
+    timeout 60 "$@" >"$work/out" 2>"$work/err"
+    got=$?
+    if [ "$got" -ne "$status" ] || ! holds "$work/out" "$out" || ! holds "$work/err" "$err"; then
+        echo "$name, $what: status $got, printed: $(tail -n 1 "$work/out" | tr -d '\0' | cut -c 1-200), said: $(tail -n 1 "$work/err" | cut -c 1-200)"
+        bad=1
+    fi
+}
+
+# nothing WHAT ERR WORDS ..: with these words the audit checks nothing and says why.
+nothing() {
+    expect "$1" 2 '' "^audit: nothing was checked: $2" "$work/audit" --quick "${@:3}"
+}
+
+# passes WHAT OUT WORDS ..: with these words it passes.
+passes() {
+    expect "$1" 0 "^audit: $2" '' "$work/audit" --quick "${@:3}"
+}
+
+printf '%s\n' '73300 8860' '22830 5050' '20000 1999' | "$work/make_sheet" >"$work/worked" || die "making the sheet"
+first=21 # make_sheet puts the result block here
+awk 'BEGIN { for (i = 0; i < 2000; i++) print 9000 + 7 * i, 2000 + i }' | "$work/make_sheet" >"$work/full" || die "making the full sheet"
+
+# ---- the usage ----
+
+for word in --quick '--record I .* counted from 0' '--sample N' '--seed S' --help '^  0  every' '^  1  a record' '^  2  nothing'; do
+    expect "--help, $word" 0 "$word" '' "$work/audit" --help
+    expect "-h, $word" 0 "$word" '' "$work/audit" -h
+done
+nothing "no sheet" "no sheet is named; audit --help"
+nothing "two sheets" "two sheets are named" "$work/worked" "$work/full"
+nothing "no option" "--quack is no option" --quack "$work/worked"
+
+# ---- the numbers of options ----
+
+for option in --record --sample --seed; do
+    nothing "$option at the end" "$option without a number" "$work/worked" $option
+    for number in -3 +1 1x x 0x1 1.5 ' 1' '' 18446744073709551616 18446744073709551617; do
+        nothing "$option '$number'" "$option $number: a whole number from " $option "$number" "$work/worked"
+    done
+done
+nothing "--sample 0" "--sample 0: a whole number from 1 " --sample 0 "$work/worked"
+nothing "--sample 2^32" "--sample 4294967296" --sample 4294967296 "$work/worked"
+nothing "--record 2^32" "--record 4294967296" --record 4294967296 "$work/worked"
+passes "the greatest seed" "passed: 3 records" --seed 18446744073709551615 "$work/worked"
+
+# ---- the records chosen ----
+
+passes "all" "passed: 3 records checked" "$work/worked"
+passes "the first record is 0" "passed: 1 record checked" --record 0 "$work/worked"
+grep -q 'u 73300 y 8860' "$work/out" || die "--record 0 is not the first pair"
+passes "the last record" "passed: 1 record checked" --record 2 "$work/worked"
+nothing "the record after the last" "--record 3: the sheet has 3 records, counted from 0" --record 3 "$work/worked"
+nothing "one of two beyond" "--record 2000: the sheet has 3 records" --record 2000 --record 0 "$work/worked"
+nothing "the greatest number" "--record 4294967295: " --record 4294967295 "$work/worked"
+passes "one named twice" "passed: 1 record checked" --record 1 --record 1 "$work/worked"
+passes "one named and drawn" "passed: 3 records checked" --record 1 --sample 3 "$work/worked"
+passes "more than there are" "--sample 5: the sheet has 3 records, all are checked" --sample 5 "$work/worked"
+passes "more than there are, once" "passed: 3 records checked" --sample 5 "$work/worked"
+
+# drawn SEED N: the records of a sample, in order.
+drawn() { "$work/audit" --quick --seed "$1" --sample "$2" "$work/full" | grep '^record' | sort -u; }
+for n in 1 20 1999 2000; do
+    passes "a sample of $n" "passed: $n record" --sample $n "$work/full"
+    [ "$(drawn 1 $n | wc -l)" -eq "$n" ] || die "a record is drawn twice, or not shown, in a sample of $n"
+done
+[ "$(drawn 1 20)" = "$(drawn 1 20)" ] || die "a seed does not draw the same sample again"
+[ "$(drawn 1 20)" != "$(drawn 2 20)" ] || die "another seed draws the same sample"
+
+# ---- sheets with nothing to check ----
+
+nothing "no records" "the sheet has no records" samples/empty.sheet
+nothing "a record of none" "the sheet has no records" --record 0 samples/empty.sheet
+nothing "a sample of none" "the sheet has no records" --sample 1 samples/empty.sheet
+nothing "a refused sheet" "the sheet is refused, it fails question 12" samples/refused.sheet
+nothing "no such file" "samples/none.sheet: No such file" samples/none.sheet
+nothing "a folder" "samples: Is a directory" samples
+truncate -s 16777216 "$work/long"
+nothing "a long file" ".*/long: the file is longer than 16,777,215 bytes" "$work/long"
+for sheet in three refused-pairs results-first; do
+    nothing "$sheet.sheet, not worked" "the sheet is not worked" "samples/$sheet.sheet"
+    nothing "a record of $sheet.sheet" "the sheet is not worked" --record 1 "samples/$sheet.sheet"
+done
+
+# zero RECORD ..: a copy of the worked sheet with these records of zeros.
+zero() {
+    local i
+    cp "$work/worked" "$work/changed"
+    for i in "$@"; do
+        dd if=/dev/zero of="$work/changed" bs=1 count=16 seek=$((first + 16 * i)) conv=notrunc status=none
+    done
+}
+
+# poke OFFSET BYTE: the copy with this byte there in its result block.
+poke() {
+    printf "$2" | dd of="$work/changed" bs=1 seek=$((first + $1)) conv=notrunc status=none
+}
+
+# fails WHAT REASON: the copy is a worked sheet with a wrong record.
+fails() {
+    expect "$1" 1 "$2" '' "$work/audit" --quick "$work/changed"
+    holds "$work/out" '^audit: FAILED: [13] records* checked' || die "$1: the last line is not FAILED"
+}
+
+zero 0 1 2
+nothing "all zeros" "the sheet is not worked" "$work/changed"
+poke 0 '\5' && poke 16 '\377'
+nothing "no number above 4" "the sheet is not worked" "$work/changed"
+poke 0 '\4'
+fails "a number of 4" "REFUSED: record 0: the number is not"
+zero 0 1 2
+poke 1 '\4' && poke 17 '\377'
+nothing "no method above 3" "the sheet is not worked" "$work/changed"
+poke 1 '\3'
+fails "a method of 3" "REFUSED: record 0: the method is not A"
+zero 0 1
+fails "two records of zeros" "REFUSED: record 1: the method is not B"
+zero 0 2
+fails "the others of zeros" "REFUSED: record 2: the number is not"
+zero 1
+fails "one record of zeros" "REFUSED: record 1: the method is not B"
+for byte in 0 2 3 4; do # number, bytes 2 and 3, index
+    echo '22830 5050' | "$work/make_sheet" >"$work/changed" || die "making a sheet of one pair"
+    poke $byte '\1'
+    fails "byte $byte of the only record" "REFUSED: record 0: "
+done
+
+# ---- the sheet of samples/make-sheet, worked ----
+
+# tests/make-sheet.sh holds three.sheet to samples/make-sheet, and rt holds the file stdout to what vi_work writes of stdin.
+cmp samples/three.sheet crates/vi_work/stdin || die "vi_work does not read three.sheet"
+passes "three.sheet, worked" "passed: 3 records checked" crates/vi_work/stdout
+
+# ---- a report that cannot be written ----
+
+unwritten() {
+    expect "$1" 2 '' '^audit: the report could not be written: ' bash -c "\"\$@\" $2" _ "$work/audit" "${@:3}"
+}
+unwritten "a full disk" '>/dev/full' --quick "$work/worked"
+unwritten "the usage to a full disk" '>/dev/full' --help
+unwritten "output closed" '>&-' --quick "$work/worked"
+
+[ $bad -eq 0 ] || die "see above"
+echo "$name: passed: $checks checks"
