@@ -1,6 +1,6 @@
 #!/usr/bin/env bash
 # The audit passes nothing that it did not check: its usage, its options, the sheets that hold nothing to check, a report that cannot be
-# written. All in quick mode, a few seconds.
+# written; and the numbers that tests/audit/make_sheet.c and tests/audit.sh do not take. All in quick mode, a few seconds.
 set -u
 . "$(dirname "$0")/compare/common.sh"
 have_headers
@@ -162,6 +162,26 @@ unwritten() {
 unwritten "a full disk" '>/dev/full' --quick "$work/worked"
 unwritten "the usage to a full disk" '>/dev/full' --help
 unwritten "output closed" '>&-' --quick "$work/worked"
+
+# ---- the lines of make_sheet, the numbers of tests/audit.sh ----
+
+# no_line WHAT ERR LINES: make_sheet does not take the lines, and writes nothing.
+no_line() {
+    expect "make_sheet, $1" 2 '' "$2" bash -c 'printf %b "$2" | "$1"' _ "$work/make_sheet" "$3"
+}
+for line in '28.489 5.000' 'foo bar' 1 '1 2 3' '-1 2' '1 -2' '+1 2' '1,2' '4294967296 2' '2 18446744073709551617' ''; do
+    no_line "'$line'" "^line 1: \"$line\" is not two whole numbers of thousandths" "$line\n"
+    no_line "'$line' after a pair" "^line 2: \"$line\" is not two whole numbers" "73300 8860\n$line\n"
+done
+no_line "no lines" "^standard input has no line" ''
+no_line "2,001 lines" "^line 2001: a sheet has at most 2000 pairs" "$(yes '73300 8860\n' | head -n 2001 | tr -d '\n')"
+
+hint='audit: FAILED: no sheet of .* thousandths of a mm²/s, 28489 for 28.489'
+expect "audit.sh 28.489 5.000" 1 "$hint" '^line 1: "28.489 5.000"' bash tests/audit.sh 28.489 5.000
+expect "audit.sh foo bar" 1 "$hint" '^line 1: "foo bar"' bash tests/audit.sh foo bar
+expect "audit.sh -28489 5000" 1 "$hint" '^line 1: "-28489 5000"' bash tests/audit.sh -28489 5000
+expect "audit.sh 28489" 1 'FAILED: usage: .*28489 for 28.489' '' bash tests/audit.sh 28489
+expect "audit.sh 73300 8860" 0 '^audit: passed: 1 record checked' '' bash tests/audit.sh 73300 8860
 
 [ $bad -eq 0 ] || die "see above"
 echo "$name: passed: $checks checks"

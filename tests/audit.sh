@@ -9,7 +9,10 @@
 # document 01's own, is 5795/4566; the other is 223/183. Less than a minute in all.
 #
 #   tests/audit.sh                  what the gate runs
-#   tests/audit.sh 2467594 425516   one pair of your own, u and y, by whole powers
+#   tests/audit.sh 2467594 425516   one pair of your own by whole powers: u and y in
+#                                   thousandths of a mm²/s, 28489 for 28.489
+#
+# tests/audit-command.sh tries the options, and what holds nothing to check.
 set -euo pipefail
 . "$(dirname "$0")/compare/common.sh"
 have_headers
@@ -18,11 +21,12 @@ bash "$root/audit/build.sh" "$work/audit" || die "building the audit"
 build make_sheet "$root/tests/audit/make_sheet.c" "$archive"
 
 if [ $# -eq 2 ]; then
-    echo "$1 $2" | "$work/make_sheet" >"$work/one.sheet" || die "the sheet is refused"
-    "$work/audit" "$work/one.sheet" || die "the audit refuses the record"
+    echo "$1 $2" | "$work/make_sheet" >"$work/one.sheet" ||
+        die "no sheet of $1 and $2: u and y are whole numbers of thousandths of a mm²/s, 28489 for 28.489"
+    "$work/audit" "$work/one.sheet" || die "the audit ends with exit code $?"
     exit 0
 fi
-[ $# -eq 0 ] || die "usage: tests/audit.sh [u y]"
+[ $# -eq 0 ] || die "usage: tests/audit.sh [u y], whole numbers of thousandths of a mm²/s, 28489 for 28.489"
 
 # ---- two records by whole powers ----
 
