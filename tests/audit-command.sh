@@ -154,6 +154,11 @@ done
 cmp samples/three.sheet crates/vi_work/stdin || die "vi_work does not read three.sheet"
 passes "three.sheet, worked" "passed: 3 records checked" crates/vi_work/stdout
 
+# docs/EVIDENCE.md shows the report on this pair, but for the last line's time.
+echo '22830 5050' | "$work/make_sheet" >"$work/one" || die "making a sheet of one pair"
+passes "the pair of docs/EVIDENCE.md" "passed: 1 record checked" "$work/one"
+diff <(sed -n '/^    record 0$/,/^      right$/s/^    //p' docs/EVIDENCE.md) <(sed '$d' "$work/out") || die "docs/EVIDENCE.md shows another report"
+
 # ---- a report that cannot be written ----
 
 unwritten() {
