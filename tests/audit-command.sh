@@ -168,6 +168,13 @@ unwritten "a full disk" '>/dev/full' --quick "$work/worked"
 unwritten "the usage to a full disk" '>/dev/full' --help
 unwritten "output closed" '>&-' --quick "$work/worked"
 
+# Only the end of the last line is past what the file may hold, 1,024 bytes.
+passes "a short report" "passed: 1 record checked" --record 0 "$work/worked"
+truncate -s $((1024 - $(wc -c <"$work/out") + 20)) "$work/short"
+expect "the last line" 2 '' 'the report could not be written: File too large' \
+    bash -c 'trap "" XFSZ; ulimit -f 1; "$@" >>"$0"' "$work/short" "$work/audit" --quick --record 0 "$work/worked"
+[ "$(wc -c <"$work/short")" -eq 1024 ] && grep -aq 'audit: passed: 1 record' "$work/short" || die "the report was cut before its last line"
+
 # ---- the lines of make_sheet, the numbers of tests/audit.sh ----
 
 # no_line WHAT ERR LINES: make_sheet does not take the lines, and writes nothing.
