@@ -1,15 +1,17 @@
 #!/usr/bin/env bash
-# docs/TRACE.md and docs/PROMISES.md name nothing that is not there: each `crate/label` is a must-fail edit, each `crate/File.antt` a file of
-# specs/, each `crate:File` a file of proofs/, and the names after it are defined in it; and every must-fail edit is named in one of the two.
+# docs/TRACE.md, docs/PROMISES.md and docs/METHOD.md name nothing that is not there: each `crate/label` is a must-fail edit, each `crate/File.antt`
+# a file of specs/, each `crate:File` a file of proofs/, and the names after it are defined in it; and every must-fail edit is named in one of the
+# first two.
 set -u
 cd "$(dirname "$0")/.." || exit 1
 documents=(docs/TRACE.md docs/PROMISES.md)
+naming=("${documents[@]}" docs/METHOD.md)
 bad=0
 miss() { echo "trace: $*"; bad=1; }
 
 crates=$(cd crates && echo *)
 crates=${crates// /|}
-named=$(grep -ohE "\`($crates)[/:][A-Za-z0-9_]+(\.antt)?\`" "${documents[@]}" | tr -d '`' | sort -u)
+named=$(grep -ohE "\`($crates)[/:][A-Za-z0-9_]+(\.antt)?\`" "${naming[@]}" | tr -d '`' | sort -u)
 [ -n "$named" ] || miss "no names found"
 count=0
 for name in $named; do
@@ -33,7 +35,7 @@ while read -r line; do
         grep -qE "^ *((abbrev|unfoldable) )?(pub )?(record )?$name( |\$)" "$path" || miss "$name is not defined in $path"
         count=$((count + 1))
     done
-done < <(grep -ohE "\`($crates)[/:][A-Za-z0-9_]+(\.antt)?\`: (\`[^\`]+\`(, )?)+" "${documents[@]}")
+done < <(grep -ohE "\`($crates)[/:][A-Za-z0-9_]+(\.antt)?\`: (\`[^\`]+\`(, )?)+" "${naming[@]}")
 for edit in crates/*/must-fail/*.edit; do
     name=${edit#crates/}
     name=${name/\/must-fail\//\/}
