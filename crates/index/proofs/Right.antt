@@ -32,12 +32,12 @@ module _ (u y k p P : ℕ) (lower : y ^ p * inUnits u ^ Q ≤ 1000 ^ p * H-at y 
       record { at-least = record { index = s .at-least; viscosity = lower }; at-most = record { index = s .at-most; viscosity = upper } }
 
 -- what the p and the P of a pair show of its viscosities
-pub lower-viscosity : (u y : ℕ) → Passes u y → inUnits u < H-at y
+lower-viscosity : (u y : ℕ) → Passes u y → inUnits u < H-at y
     → y ^ lowerOfPair u y * inUnits u ^ Q ≤ 1000 ^ lowerOfPair u y * H-at y ^ Q
 unfolding lowerOfPair
 lower-viscosity u y a l = lower-shows y (inUnits u) (H-at y) (log2Of y) (log2Of (inUnits u)) (log2Of (H-at y)) (logarithms u y a l)
 
-pub upper-viscosity : (u y : ℕ) → Passes u y → inUnits u < H-at y
+upper-viscosity : (u y : ℕ) → Passes u y → inUnits u < H-at y
     → 1000 ^ upperOfPair u y * H-at y ^ Q ≤ y ^ upperOfPair u y * inUnits u ^ Q
 unfolding lowerOfPair upperOfPair
 upper-viscosity u y a l =

@@ -16,8 +16,8 @@ pub record Forced156 (method : ℕ) (index : ℤ) (p P : ℕ) : Type 0 where
   pub index-is : index ≡ pos 156
   pub shown : SettledAt 22830 5050 156 p P
   pub lower-least : 2435078 ≤ p
-  pub lower-most : p ≤ 2469441
-  pub upper-least : 2469440 ≤ P
+  pub lower-most : p ≤ 2469440
+  pub upper-least : 2469441 ≤ P
   pub upper-most : P ≤ 2472281
 
 pub record ForcedAnswers : Type 0 where

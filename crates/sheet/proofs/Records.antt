@@ -1,12 +1,13 @@
 -- The records of a sheet: their length, and one turn of the loop over the pairs.
 use Prim.Native.Nat.{ℕ, zero, suc, _+_, _*_, _-_, _≤_, _<_}
-use mathlib.Core.Path.{_≡_, refl, ap, _∙_}
+use mathlib.Core.Path.{_≡_, refl, ap, ap₂, _∙_}
 use mathlib.Core.List.{List, _++_}
 use mathlib.Core.Logic.{_⊎_, inl, inr, ⊎-elim}
 use native.Mathlib.Numerals.{add-one}
 use native.Mathlib.Omega.{arith}
 use lib.ListN.{length, take, drop, length-append}
 use Rattle.index.specs.declared.answer.Answer.{Answer}
+use Rattle.index.specs.ChosenAnswer.{answerOf}
 use Rattle.answer_record.specs.Bytes.{numberSize, numberAt, stored}
 use Rattle.answer_record.specs.Record.{resultSize, recordOf}
 use Rattle.answer_record.proofs.Stores.{stored-append, number-kept, part-back}
@@ -50,6 +51,9 @@ module _ (s : List ℕ) (pairs results i k : ℕ)
 
   pub y-kept : yAt (stored s results (recordsOf s pairs k)) pairs i ≡ yAt s pairs i
   y-kept = kept (pairs + pairSize * i + yOffset) (omega arith) (omega arith)
+
+  pub answer-kept : answerAt (stored s results (recordsOf s pairs k)) pairs i ≡ answerAt s pairs i
+  answer-kept = ap₂ answerOf u-kept y-kept
 
 -- one turn: pair i is read as it was at entry, and its record comes after those before it
 pub next-turn : (s t t′ : List ℕ) (size n pairs results i : ℕ) → BlocksWithin size n pairs results → i < n

@@ -32,16 +32,16 @@ pub record Forced (before after : List ℕ) : Type 0 where
   -- Wherever (20000, 1999) stands, its 16 bytes are the record of a refusal by 1: a refused pair has its record too
   pub refused : (i : ℕ) → PairIs before after i 20000 1999 → bytes before after i ≡ recordOf (Refused 1)
 
--- a sheet of these three pairs, with what was found in its result block
+-- a sheet of these three pairs, the refused one first, with what was found in its result block
 abbrev pub threePairs : List ℕ → List ℕ
-threePairs found = headerAlone 3 16 40 88 ++ (bytesOf 73300 ++ bytesOf 8860 ++ bytesOf 22830 ++ bytesOf 5050 ++ bytesOf 20000 ++ bytesOf 1999 ++ found)
+threePairs found = headerAlone 3 16 40 88 ++ (bytesOf 20000 ++ bytesOf 1999 ++ bytesOf 73300 ++ bytesOf 8860 ++ bytesOf 22830 ++ bytesOf 5050 ++ found)
 
 -- such a sheet is accepted, so that what is forced is forced of some sheet, and its pairs are those three
 pub record ThreePairs (found after : List ℕ) : Type 0 where
   pub accepted : sheetRefusal (threePairs found) ≡ 0
-  pub first : PairIs (threePairs found) after 0 73300 8860
-  pub second : PairIs (threePairs found) after 1 22830 5050
-  pub third : PairIs (threePairs found) after 2 20000 1999
+  pub first : PairIs (threePairs found) after 0 20000 1999
+  pub second : PairIs (threePairs found) after 1 73300 8860
+  pub third : PairIs (threePairs found) after 2 22830 5050
 
 pub record DemandForces : Type 0 where
   pub forced : (before after : List ℕ) → Demand3 before after → sheetRefusal before ≡ 0 → Forced before after
