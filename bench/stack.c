@@ -1,46 +1,115 @@
-/* The stack that vi_sheet and vi_pair use, measured: each runs on a stack of its own that was filled before, and the bytes that it
-   changed are counted from the far end. */
+/* The stack that vi_pair and vi_sheet use, measured: a block is filled, the stack pointer is set to a place in it, and the function is called from
+   there. The bytes are counted from that place, where the stack pointer stands just before the call instruction, down to the lowest that was changed:
+   the return address, every frame, and what is written below the stack pointer. Each call is made with two fills, so that no byte passes for
+   unchanged because it was written with the fill. The most of many calls is printed. For x86-64. */
 #include <stdio.h>
+#include <stdlib.h>
 #include <string.h>
-#include <ucontext.h>
 
 #include "viscosity_index.h"
 
-enum { SIZE = 256 * 1024, FILL = 0xA5 };
+enum { BELOW = 64 * 1024, ABOVE = 1024, MOST = VI_MOST_PAIRS, DRAWN = 20000 };
 
-static unsigned char stack[SIZE];
-static ucontext_t caller, callee;
-static uint8_t sheet[16 + 24] = {1, 0, 0, 0, 16, 0, 0, 0, 24, 0, 0, 0, 40, 0, 0, 0};
+static _Alignas(16) unsigned char block[BELOW + ABOVE];
+static uint8_t record[VI_RECORD_SIZE], sheet[VI_HEADER_SIZE + (VI_PAIR_SIZE + VI_RECORD_SIZE) * MOST];
+static long most_pair, most_sheet, calls_pair, calls_sheet;
 
-static void nothing(void) {}
-static void pair(void)
+/* Calls `function` with up to four arguments, the stack pointer at block + BELOW. */
+static void call_there(const void *function, uint64_t a, uint64_t b, uint64_t c, uint64_t d)
 {
-    uint8_t record[VI_RECORD_SIZE];
-    vi_pair(22830, 5050, record, sizeof record);
+    uint64_t answer;
+    __asm__ volatile("mov %%rsp, %%rbx\n\t"
+                     "mov %[top], %%rsp\n\t"
+                     "call *%[function]\n\t"
+                     "mov %%rbx, %%rsp"
+                     : "=a"(answer), "+D"(a), "+S"(b), "+d"(c), "+c"(d)
+                     : [top] "r"(block + BELOW), [function] "r"(function)
+                     : "rbx", "r8", "r9", "r10", "r11", "xmm0", "xmm1", "xmm2", "xmm3", "xmm4", "xmm5", "xmm6", "xmm7", "xmm8", "xmm9",
+                       "xmm10", "xmm11", "xmm12", "xmm13", "xmm14", "xmm15", "memory", "cc");
+    (void)answer;
 }
-static void one_sheet(void) { vi_sheet(sheet, sizeof sheet); }
 
-static long used(void (*run)(void))
+/* The bytes that one call uses. */
+static long used(const void *function, uint64_t a, uint64_t b, uint64_t c, uint64_t d)
 {
-    long left = 0;
-    memset(stack, FILL, sizeof stack);
-    getcontext(&callee);
-    callee.uc_stack.ss_sp = stack;
-    callee.uc_stack.ss_size = sizeof stack;
-    callee.uc_link = &caller;
-    makecontext(&callee, run, 0);
-    swapcontext(&caller, &callee);
-    while (left < SIZE && stack[left] == FILL)
-        left++;
-    return SIZE - left;
+    static const unsigned char fills[] = {0xA5, 0x5A};
+    long most = 0;
+    for (size_t i = 0; i < sizeof fills; i++) {
+        long low = 0, high = BELOW;
+        memset(block, fills[i], sizeof block);
+        call_there(function, a, b, c, d);
+        while (low < BELOW && block[low] == fills[i])
+            low++;
+        while (high < BELOW + ABOVE && block[high] == fills[i])
+            high++;
+        if (low == 0 || high < BELOW + ABOVE) {
+            printf("stack: FAILED, a call wrote past the block or above its caller's stack pointer\n");
+            exit(1);
+        }
+        if (BELOW - low > most)
+            most = BELOW - low;
+    }
+    return most;
+}
+
+static void pair(uint32_t u, uint32_t y, size_t length)
+{
+    long bytes = used((const void *)vi_pair, u, y, (uint64_t)(uintptr_t)record, length);
+    if (bytes > most_pair)
+        most_pair = bytes;
+    calls_pair++;
+}
+
+/* A sheet of the pairs that stand in it already; its total says `total`. */
+static void one_sheet(uint32_t pairs, uint32_t total)
+{
+    uint32_t header[] = {pairs, VI_HEADER_SIZE, VI_HEADER_SIZE + VI_PAIR_SIZE * pairs, total};
+    uint32_t length = VI_HEADER_SIZE + (VI_PAIR_SIZE + VI_RECORD_SIZE) * pairs;
+    memcpy(sheet, header, sizeof header);
+    long bytes = used((const void *)vi_sheet, (uint64_t)(uintptr_t)sheet, length, 0, 0);
+    if (bytes > most_sheet)
+        most_sheet = bytes;
+    calls_sheet++;
+}
+
+static void put(uint32_t place, uint32_t u, uint32_t y)
+{
+    memcpy(sheet + VI_HEADER_SIZE + VI_PAIR_SIZE * place, &u, sizeof u);
+    memcpy(sheet + VI_HEADER_SIZE + VI_PAIR_SIZE * place + VI_PAIR_Y, &y, sizeof y);
+}
+
+static uint32_t drawn(uint32_t least, uint32_t most) /* from least to most */
+{
+    static uint64_t state = 88172645463325252ull;
+    state ^= state << 13;
+    state ^= state >> 7;
+    state ^= state << 17;
+    return least + (uint32_t)(state % (most - least + 1u));
 }
 
 int main(void)
 {
-    const uint32_t u = 22830, y = 5050;
-    memcpy(sheet + 16, &u, 4);
-    memcpy(sheet + 20, &y, 4);
-    long base = used(nothing);
-    printf("stack: vi_pair %ld bytes, vi_sheet %ld bytes\n", used(pair) - base, used(one_sheet) - base);
+    /* refused pairs, a pair by A, B settled, B near, an index above the thresholds, y above Table 1 */
+    static const uint32_t named[][2] = {{20000, 1999}, {900000, 500001}, {1000000001, 2000}, {2000, 2000}, {73300, 8860}, {22830, 5050},
+                                        {198274, 48398}, {69133, 49390}, {2001, 2000}, {500001, 500000}, {1400000, 150000}};
+    for (size_t i = 0; i < sizeof named / sizeof *named; i++) {
+        pair(named[i][0], named[i][1], VI_RECORD_SIZE);
+        put(0, named[i][0], named[i][1]);
+        one_sheet(1, VI_HEADER_SIZE + VI_PAIR_SIZE + VI_RECORD_SIZE);
+    }
+    pair(73300, 8860, 0);
+    for (int i = 0; i < DRAWN; i++) {
+        uint32_t y = i % 2 == 0 ? drawn(VI_Y_LEAST, 70000) : drawn(VI_Y_LEAST, VI_Y_GREATEST);
+        uint32_t u = drawn(y + 1, (i % 3 + 1) * 8 * y);
+        pair(u, y, VI_RECORD_SIZE);
+        put((uint32_t)(i % MOST), u, y);
+        if (i % MOST == MOST - 1) {
+            one_sheet(MOST, sizeof sheet);
+            one_sheet(60, VI_HEADER_SIZE + (VI_PAIR_SIZE + VI_RECORD_SIZE) * 60);
+        }
+    }
+    one_sheet(0, VI_HEADER_SIZE);
+    one_sheet(1, 0);
+    printf("stack: vi_pair %ld bytes, vi_sheet %ld bytes, the most of %ld and of %ld calls\n", most_pair, most_sheet, calls_pair, calls_sheet);
     return 0;
 }
