@@ -11,4 +11,3 @@ pub mod Right
 pub mod Fits
 pub mod Order
 pub mod Examples
-pub mod ForcedAnswers

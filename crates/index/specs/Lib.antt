@@ -11,4 +11,3 @@ pub mod Examples
 pub mod Consistent
 pub mod Determined
 pub mod Order
-pub mod ForcedAnswers

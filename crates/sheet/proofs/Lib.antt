@@ -7,4 +7,3 @@ pub mod Worked
 pub mod RecordsAfter
 pub mod Demand3
 pub mod Examples
-pub mod Forced

@@ -2,5 +2,4 @@
 pub mod Sheet
 pub mod Demand3
 pub mod Examples
-pub mod Forced
 pub mod Preconditions

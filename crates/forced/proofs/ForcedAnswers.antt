@@ -24,13 +24,13 @@ use Rattle.shown_index.specs.declared.Mark.the-variants as mark
 use Rattle.shown_index.specs.Terms.{Q, Q-is, Q-number}
 use Rattle.shown_index.specs.ChosenIndex.{showsLeast, showsMost}
 use Rattle.shown_index.proofs.Shows.{least-shows, most-shows}
 use Rattle.index.specs.declared.answer.Answer.{Answer}
 use Rattle.index.specs.declared.answer.Answer.the-variants.{Refused, A, B}
 use Rattle.index.specs.ProcedureA.{roundedA, indexA}
 use Rattle.index.specs.ProcedureB.{AtLeast, AtMost, SettledAt, NearAt, Marked}
 use Rattle.index.specs.Answer.{methodOfMark, methodOf, indexOf, lowerOf, upperOf, RightAnswer}
-use Rattle.index.specs.ForcedAnswers.{Forced156, ForcedAnswers}
+use Rattle.forced.specs.ForcedAnswers.{Forced156, ForcedAnswers}
 use Rattle.index.proofs.Consistent.{consistent}
 
 -- ---- by A, and refused
 

@@ -1,13 +1,13 @@
--- What the definitions force, with no program in it: the answers to three pairs of document 01, from `RightAnswer` alone. Whoever answers otherwise is
--- refuted, whatever proof he offers. proofs/ForcedAnswers.antt shows it. What it means for a sheet stands in crate sheet (Forced.antt).
+-- What the definitions force of a pair: the answers to three pairs of document 01, from `RightAnswer` alone. A program that answers otherwise is refuted,
+-- whatever proof is offered for it. proofs/ForcedAnswers.antt shows it. Forced.antt says what it means for a sheet.
 use Prim.Native.Nat.{ℕ, _≤_}
 use mathlib.Core.Path.{_≡_}
 use lib.IntN.{ℤ, pos}
 use Rattle.shown_index.specs.declared.Mark.the-variants as mark
 use Rattle.index.specs.declared.answer.Answer.{Answer}
 use Rattle.index.specs.declared.answer.Answer.the-variants.{Refused, A}
 use Rattle.index.specs.ProcedureB.{SettledAt}
 use Rattle.index.specs.Answer.{methodOfMark, methodOf, indexOf, lowerOf, upperOf, RightAnswer}
 
 -- what is forced of (22830, 5050), an oil below H: the method and the index; and of p and P, which document 01 leaves free, that the powers of both show
 -- the index, and between which numbers they lie

@@ -1,5 +1,5 @@
--- What demand 3 forces, with no program in it: from `Demand3` of the bytes before and after and the acceptance of the sheet alone, the records of three pairs
--- of document 01 are what they must be. So the substitutes of the buyer's note are refuted by the definitions, and not only by the proof of one
+-- What demand 3 forces of a sheet: from `Demand3` of the bytes before and after and the acceptance of the sheet alone, the records of three pairs of
+-- document 01 are what they must be. So the substitutes of the buyer's note are refuted by the definitions, and not only by the proof of one
 -- program. proofs/Forced.antt shows it.
 use Prim.Native.Nat.{ℕ, _<_}
 use mathlib.Core.Path.{_≡_}
@@ -7,12 +7,12 @@ use mathlib.Core.List.{List, _++_}
 use lib.IntN.{pos}
 use lib.ListN.{length}
 use Rattle.index.specs.declared.answer.Answer.the-variants.{Refused, A}
-use Rattle.index.specs.ForcedAnswers.{Forced156}
+use Rattle.forced.specs.ForcedAnswers.{Forced156}
 use Rattle.answer_record.specs.Bytes.{bytesOf}
 use Rattle.answer_record.specs.Record.{recordOf, RecordOfPair}
 use Rattle.sheet.specs.Sheet.{sheetRefusal}
 use Rattle.sheet.specs.Demand3.{n, u, y, bytes, method, index, lower, upper, AfterTheCall, Demand3}
 use Rattle.sheet.specs.Examples.{headerAlone}
 
 -- pair i of the sheet is (v, w)
 pub record PairIs (before after : List ℕ) (i v w : ℕ) : Type 0 where

@@ -5,13 +5,13 @@ use mathlib.Core.List.{List}
 use native.Mathlib.Omega.{arith}
 use lib.ListN.{length}
 use Rattle.index.specs.Answer.{RightAnswer}
-use Rattle.index.proofs.ForcedAnswers.{forced-answers}
+use Rattle.forced.proofs.ForcedAnswers.{forced-answers}
 use Rattle.answer_record.specs.Bytes.{numberAt, bytesOf}
 use Rattle.answer_record.specs.Record.{recordOf}
 use Rattle.sheet.specs.Sheet.{standsWithin, shareNoByte, sheetRefusal}
 use Rattle.sheet.specs.Demand3.{Demand3}
-use Rattle.sheet.specs.Forced.{PairIs, Forced, ThreePairs, DemandForces}
+use Rattle.forced.specs.Forced.{PairIs, Forced, ThreePairs, DemandForces}
 use Rattle.sheet.proofs.Demand3.{read, all-follow}
 
 module _ (before after : List ℕ) (demand : Demand3 before after) (accepted : sheetRefusal before ≡ 0) where
   right-of : (i v w : ℕ) (p : PairIs before after i v w) → RightAnswer v w (demand accepted .records i (p .among) .answer)

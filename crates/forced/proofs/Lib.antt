@@ -1,0 +1,3 @@
+-- The proofs of the two statements.
+pub mod ForcedAnswers
+pub mod Forced
