@@ -57,10 +57,13 @@ lowerAt bytes at = numberAt bytes (at + lowerOffset)
 abbrev pub upperAt : List ℕ → ℕ → ℕ
 upperAt bytes at = numberAt bytes (at + upperOffset)
 
--- bytes that are the record of a pair: there is an answer to it, the one that it gets when asked alone and right by document 01's questions and
--- procedures, and the bytes are its record
-pub record RecordOfPair (u y : ℕ) (bytes : List ℕ) : Type 0 where
+-- bytes that are the record of a right answer to a pair: right by document 01's questions and procedures
+pub record RightRecord (u y : ℕ) (bytes : List ℕ) : Type 0 where
   pub answer : Answer
-  pub alone : answer ≡ answerOf u y
   pub right : RightAnswer u y answer
   pub laid-out : bytes ≡ recordOf answer
+
+-- and of the one that the pair gets when asked alone
+pub record RecordOfPair (u y : ℕ) (bytes : List ℕ) : Type 0 where
+  pub of-right : RightRecord u y bytes
+  pub alone : of-right .answer ≡ answerOf u y

@@ -1,47 +1,63 @@
--- The answers to three pairs are forced. By A and where a pair is refused, the definitions compute. By B the two whole numbers next to Q·N show that the
--- exact index of (22830, 5050) is from 155.52 to 156.48, and certificates do not contradict each other.
-use Prim.Native.Nat.{ℕ, _+_, _*_, _-_, _^_, _≤_, _<_}
+-- The answers to these pairs are forced. By A and where a pair is refused, the definitions compute. By B the two whole numbers beside Q·N bound what any
+-- certificate shows of the index: of (22830, 5050) that it is from 156.42 to 156.43, of (144936, 16776) that it is neither below 124.5 nor above it.
+use Prim.Native.Nat.{ℕ, _*_, _^_, _≤_, _<_}
 use mathlib.Core.Path.{_≡_, refl, sym, _∙_, ap, subst}
 use mathlib.Core.Bool.{true}
 use native.Mathlib.Omega.{arith}
-use native.Mathlib.Nat.{le-trans, mul-le-mul-left, le-of-mul-le-mul-right, one-le-pow, pow-le-pow-left, pow-lt-pow-left}
-use lib.Dec.{T, ltb, leb, lit<, lit≤}
-use lib.IntN.{pos}
+use native.Mathlib.Nat.{le-trans, le-of-mul-le-mul-right, one-le-pow}
+use lib.Dec.{lit≤}
+use lib.IntN.{ℤ, pos, negsuc}
 use lib.Count.{leadingZeros}
-use Rattle.laws.proofs.Powers.{exponents-le, exponents-apart}
+use Rattle.laws.proofs.Powers.{exponents-le}
 use Rattle.reference.specs.Viscosity.{inUnits}
 use Rattle.reference.specs.Table1.{table1}
 use Rattle.reference.specs.Basis.{entry, atPlace, L-at, H-at}
-use Rattle.reference.proofs.Examples.{starred-basis}
-use Rattle.logarithm.specs.Scale.{scale, width, unit, log1000}
 use Rattle.logarithm.specs.Tables.{firstTable, secondTable}
-use Rattle.logarithm.specs.Log2.{log2Of, Enclosed, fractionOf, mantissa, zerosOf, entryAt, entryOf, timesFactor, levelLog, levelRest, tailOf, restOf}
-use Rattle.logarithm.proofs.Log2.{log2-enclosed}
-use Rattle.logarithm.proofs.FromLogarithms.{powers-le, scale-positive}
-use Rattle.logarithm.proofs.Constants.{thousand}
+use Rattle.logarithm.specs.Log2.{log2Of, fractionOf, mantissa, zerosOf, entryAt, entryOf, timesFactor, levelLog, levelRest, tailOf, restOf}
 use Rattle.shown_index.specs.declared.Mark.{Mark}
 use Rattle.shown_index.specs.declared.Mark.the-variants as mark
-use Rattle.shown_index.specs.Terms.{Q, Q-is, Q-number}
+use Rattle.shown_index.specs.declared.ByB.{ByB}
+use Rattle.shown_index.specs.Terms.{Q}
 use Rattle.shown_index.specs.ChosenIndex.{showsLeast, showsMost}
 use Rattle.shown_index.proofs.Shows.{least-shows, most-shows}
 use Rattle.index.specs.declared.answer.Answer.{Answer}
 use Rattle.index.specs.declared.answer.Answer.the-variants.{Refused, A, B}
+use Rattle.index.specs.Questions.{refusal}
 use Rattle.index.specs.ProcedureA.{roundedA, indexA}
-use Rattle.index.specs.ProcedureB.{AtLeast, AtMost, SettledAt, NearAt, Marked}
+use Rattle.index.specs.ProcedureB.{SettledAt, NearAt, Marked}
 use Rattle.index.specs.Answer.{methodOfMark, methodOf, indexOf, lowerOf, upperOf, RightAnswer}
-use Rattle.forced.specs.ForcedAnswers.{Forced156, ForcedAnswers}
-use Rattle.index.proofs.Consistent.{consistent}
+use Rattle.forced.specs.ForcedAnswers.{Forced156, ForcedNear125, ForcedAnswers}
+use Rattle.forced.proofs.Fractions.{enclosed, Numbers, lower-most, upper-least, least-bound, most-bound}
 
 -- ---- by A, and refused
 
-ninety-two : indexA 73300 8860 ≡ pos 92
-unfolding indexA roundedA L-at H-at atPlace entry table1
-ninety-two = refl
+no-refusal : (n : ℕ) → n ≡ 0 → 0 < n → ⊥
+no-refusal n z p = omega arith
 
-only-92 : (a : Answer) → RightAnswer 73300 8860 a → a ≡ A (pos 92)
-only-92 (Refused n) r = let z : n ≡ 0 = r .number in let some : 0 < n = r .case in absurd (omega arith)
-only-92 (A i) r = ap A (r .case .1 ∙ ninety-two)
-only-92 (B b) r = let below : inUnits 73300 < H-at 8860 = r .case .below in absurd (omega (arith, starred-basis .h-8860))
+only-a : (u y : ℕ) (i : ℤ) → refusal u y ≡ 0 → H-at y ≤ inUnits u → indexA u y ≡ i → (a : Answer) → RightAnswer u y a → a ≡ A i
+only-a u y i q h e (Refused n) r = absurd (no-refusal n (r .number ∙ q) (r .case))
+only-a u y i q h e (A x) r = ap A (r .case .1 ∙ e)
+only-a u y i q h e (B b) r = let below : inUnits u < H-at y = r .case .below in absurd (omega arith)
+
+by-a : (a : Answer) → RightAnswer 73300 8860 a → a ≡ A (pos 92)
+unfolding indexA roundedA L-at H-at atPlace entry table1
+by-a = only-a 73300 8860 (pos 92) refl (lit≤ tt) refl
+
+at-h : (a : Answer) → RightAnswer 28490 5000 a → a ≡ A (pos 100)
+unfolding indexA roundedA L-at H-at atPlace entry table1
+at-h = only-a 28490 5000 (pos 100) refl (lit≤ tt) refl
+
+half : (a : Answer) → RightAnswer 7986 2000 a → a ≡ A (pos 1)
+unfolding indexA roundedA L-at H-at atPlace entry table1
+half = only-a 7986 2000 (pos 1) refl (lit≤ tt) refl
+
+negative-half : (a : Answer) → RightAnswer 8018 2000 a → a ≡ A (negsuc 0)
+unfolding indexA roundedA L-at H-at atPlace entry table1
+negative-half = only-a 8018 2000 (negsuc 0) refl (lit≤ tt) refl
+
+thickest : (a : Answer) → RightAnswer 1000000000 2000 a → a ≡ A (negsuc 62499499)
+unfolding indexA roundedA L-at H-at atPlace entry table1
+thickest = only-a 1000000000 2000 (negsuc 62499499) refl (lit≤ tt) refl
 
 zero-not-one : _≡_ {A = ℕ} 0 1 → ⊥
 zero-not-one e = omega arith
@@ -53,115 +69,151 @@ only-refused (B b) r = absurd (zero-not-one (r .number))
 
 -- ---- by B
 
--- Q·N lies between these two
-p : ℕ
-p = 2469440
-
-p-is : p ≡ 2469440
-unfolding p
-p-is = refl
-
-P : ℕ
-P = 2469441
-
-P-is : P ≡ 2469441
-unfolding P
-P-is = refl
-
--- the logarithm of a literal
-enclosed : (x : ℕ) → T (leb 1 x) → T (ltb x (2 * unit)) → Enclosed x (log2Of x)
-enclosed x a b = log2-enclosed x (record { least = lit≤ a; most = lit< b })
-
--- what the logarithms of y, U and H say of them: p is at most Q·N also for an oil that is thicker by a unit, and P at least for one thinner by a unit
-lower-logs : (log2Of 5050 + width) * p + (log2Of 228300000001 + width) * Q-number ≤ log1000 * p + log2Of 289750000000 * Q-number
-unfolding p log2Of fractionOf mantissa zerosOf entryAt entryOf timesFactor levelLog levelRest tailOf restOf firstTable secondTable leadingZeros
-lower-logs = lit≤ tt
-
-upper-logs : (log1000 + 1) * P + (log2Of 289750000000 + width) * Q-number ≤ log2Of 5050 * P + log2Of 228299999999 * Q-number
-unfolding P log2Of fractionOf mantissa zerosOf entryAt entryOf timesFactor levelLog levelRest tailOf restOf firstTable secondTable leadingZeros
-upper-logs = lit≤ tt
-
-lower-viscosity : 5050 ^ p * (inUnits 22830 + 1) ^ Q ≤ 1000 ^ p * H-at 5050 ^ Q
-lower-viscosity =
-    rw (starred-basis .h-5050)
-    (powers-le scale p Q 5050 228300000001 1000 289750000000 (log2Of 5050 + width) (log2Of 228300000001 + width) log1000 (log2Of 289750000000) scale-positive
-    (enclosed 5050 tt tt .above) (enclosed 228300000001 tt tt .above) (thousand .below) (enclosed 289750000000 tt tt .below)
-    (rw Q-is lower-logs))
-
-upper-viscosity : 1000 ^ P * H-at 5050 ^ Q ≤ 5050 ^ P * (inUnits 22830 - 1) ^ Q
-upper-viscosity =
-    rw (starred-basis .h-5050)
-    (powers-le scale P Q 1000 289750000000 5050 228299999999 (log1000 + 1) (log2Of 289750000000 + width) (log2Of 5050) (log2Of 228299999999) scale-positive
-    (thousand .above) (enclosed 289750000000 tt tt .above) (enclosed 5050 tt tt .below) (enclosed 228299999999 tt tt .below)
-    (rw Q-is upper-logs))
-
--- and what p, P and the ends of their ranges say of the index
-least : (showsLeast p 15552 ≡ true) × (showsMost 2435078 15550 ≡ true)
-unfolding p showsLeast showsMost log2Of fractionOf mantissa zerosOf entryAt entryOf timesFactor levelLog levelRest tailOf restOf firstTable secondTable leadingZeros
-least = (refl, refl)
-
-most : (showsMost P 15648 ≡ true) × (showsLeast 2472281 15650 ≡ true)
-unfolding P showsLeast showsMost log2Of fractionOf mantissa zerosOf entryAt entryOf timesFactor levelLog levelRest tailOf restOf firstTable secondTable leadingZeros
-most = (refl, refl)
-
-at-least : AtLeast 22830 5050 15552 p
-at-least =
-    record {
-      index = least-shows p 15552 (omega arith) (omega arith) (least .0);
-      viscosity = le-trans (mul-le-mul-left (5050 ^ p) (pow-le-pow-left (omega arith) Q)) lower-viscosity;
-    }
-
-at-most : AtMost 22830 5050 15648 P
-at-most =
-    record {
-      index = most-shows P 15648 (omega arith) (omega arith) (most .0);
-      viscosity = le-trans upper-viscosity (mul-le-mul-left (5050 ^ P) (pow-le-pow-left (omega arith) Q));
-    }
-
--- no index but 156 is settled, and none is near
-only-156 : (k p′ P′ : ℕ) → SettledAt 22830 5050 k p′ P′ → k ≡ 156
-only-156 k p′ P′ h =
-    let i = consistent .in-order 22830 5050 15552 (100 * k + 50) p P′ (omega arith) (omega arith) at-least (h .at-most) in
-    let j = consistent .in-order 22830 5050 (100 * k - 50) 15648 p′ P (omega arith) (omega arith) (h .at-least) at-most in
-    omega arith
-
-never-near : (k p′ P′ : ℕ) → NearAt 22830 5050 k p′ P′ → ⊥
-never-near k p′ P′ h =
-    let i = consistent .in-order 22830 5050 15552 (100 * k - 49) p P′ (omega arith) (omega arith) at-least (h .at-most) in
-    let j = consistent .in-order 22830 5050 (100 * k - 51) 15648 p′ P (omega arith) (omega arith) (h .at-least) at-most in
-    omega arith
-
--- a smaller power of ten at least a greater one
+-- an order of powers of ten is one of their exponents
 exponents : (a b : ℕ) → 10 ^ a * 10 ^ (7 * Q) ≤ 10 ^ b * 10 ^ (7 * Q) → a ≤ b
 exponents a b h = exponents-le 10 a b (omega arith) (le-of-mul-le-mul-right {k = 10 ^ (7 * Q)} h (one-le-pow (7 * Q) 10 (omega arith)))
 
--- a numerator that is at most Q·N of the thicker of two oils is below one that is at least that of the thinner
-apart : (v w a b : ℕ) → v < w → 5050 ^ a * w ^ Q ≤ 1000 ^ a * H-at 5050 ^ Q → 1000 ^ b * H-at 5050 ^ Q ≤ 5050 ^ b * v ^ Q → a < b
-apart v w a b h low high =
-    exponents-apart 1000 5050 (v ^ Q) (w ^ Q) (H-at 5050 ^ Q) a b (omega arith) (omega arith) (pow-lt-pow-left h (λ e. omega (arith, Q-is))) low high
+-- a right answer to a pair below H is by B
+by-mark : (P : Answer → Type 0) (u y : ℕ) → refusal u y ≡ 0 → inUnits u < H-at y
+    → ((b : ByB) → Marked (b .mark) u y (b .index) (b .lower) (b .upper) → P (B b)) → (a : Answer) → RightAnswer u y a → P a
+by-mark P u y q l f (Refused n) r = absurd (no-refusal n (r .number ∙ q) (r .case))
+by-mark P u y q l f (A i) r = let h : H-at y ≤ inUnits u = r .case .0 in absurd (omega arith)
+by-mark P u y q l f (B b) r = f b (r .case .marked)
 
-forced : (p′ P′ : ℕ) → SettledAt 22830 5050 156 p′ P′ → Forced156 (methodOfMark mark.Settled) (pos 156) p′ P′
-forced p′ P′ h =
+-- ---- (22830, 5050): Q·N lies between 2,469,440 and 2,469,441, which stand for an index from 156.42 to 156.43
+
+p156 : ℕ
+p156 = 2469440
+
+p156-is : p156 ≡ 2469440
+unfolding p156
+p156-is = refl
+
+numbers-156 : Numbers 22830 5050 289750000000 p156 14034745000 14034030000
+unfolding p156 H-at atPlace entry table1 log2Of fractionOf mantissa zerosOf entryAt entryOf timesFactor levelLog levelRest tailOf restOf firstTable secondTable leadingZeros
+numbers-156 =
+    record {
+      h-is = refl;
+      y-log = enclosed _ tt tt;
+      h-log = enclosed _ tt tt;
+      thicker-log = enclosed _ tt tt;
+      thinner-log = enclosed _ tt tt;
+      most-log = enclosed _ tt tt;
+      least-log = enclosed _ tt tt;
+      lower = lit≤ tt;
+      upper = lit≤ tt;
+      index-most = lit≤ tt;
+      index-least = lit≤ tt;
+    }
+
+-- the far ends of the ranges of p and P
+far-lower : showsMost 2435078 15550 ≡ true
+unfolding showsMost log2Of fractionOf mantissa zerosOf entryAt entryOf timesFactor levelLog levelRest tailOf restOf firstTable secondTable leadingZeros
+far-lower = refl
+
+far-upper : showsLeast 2472281 15650 ≡ true
+unfolding showsLeast log2Of fractionOf mantissa zerosOf entryAt entryOf timesFactor levelLog levelRest tailOf restOf firstTable secondTable leadingZeros
+far-upper = refl
+
+module _ (k p P : ℕ) where
+  only-156 : SettledAt 22830 5050 k p P → k ≡ 156
+  only-156 h =
+      let low = least-bound _ _ _ _ _ _ (omega arith) (omega arith) numbers-156 _ p (h .at-least) in
+      let high = most-bound _ _ _ _ _ _ (omega arith) (omega arith) numbers-156 _ P (h .at-most) in
+      omega arith
+
+  never-near : NearAt 22830 5050 k p P → ⊥
+  never-near h =
+      let low = least-bound _ _ _ _ _ _ (omega arith) (omega arith) numbers-156 _ p (h .at-least) in
+      let high = most-bound _ _ _ _ _ _ (omega arith) (omega arith) numbers-156 _ P (h .at-most) in
+      omega arith
+
+forced-156 : (p P : ℕ) → SettledAt 22830 5050 156 p P → Forced156 (methodOfMark mark.Settled) (pos 156) p P
+forced-156 p P h =
     record {
       settled = refl;
       index-is = refl;
       shown = h;
-      lower-least = exponents 2435078 p′ (le-trans (most-shows 2435078 15550 (omega arith) (omega arith) (least .1)) (h .at-least .index));
-      lower-most = omega (arith, P-is, apart (inUnits 22830 - 1) (inUnits 22830) p′ P (omega arith) (h .at-least .viscosity) upper-viscosity);
-      upper-least = omega (arith, p-is, apart (inUnits 22830) (inUnits 22830 + 1) p P′ (omega arith) lower-viscosity (h .at-most .viscosity));
-      upper-most = exponents P′ 2472281 (le-trans (h .at-most .index) (least-shows 2472281 15650 (omega arith) (omega arith) (most .1)));
+      lower-least = exponents 2435078 p (le-trans (most-shows 2435078 15550 (omega arith) (omega arith) far-lower) (h .at-least .index));
+      lower-most = omega (arith, p156-is, lower-most _ _ _ _ _ _ (omega arith) (omega arith) numbers-156 _ p (h .at-least));
+      upper-least = omega (arith, p156-is, upper-least _ _ _ _ _ _ (omega arith) (omega arith) numbers-156 _ P (h .at-most));
+      upper-most = exponents P 2472281 (le-trans (h .at-most .index) (least-shows 2472281 15650 (omega arith) (omega arith) far-upper));
     }
 
-by-mark : (m : Mark) (k p′ P′ : ℕ) → Marked m 22830 5050 k p′ P′ → Forced156 (methodOfMark m) (pos k) p′ P′
-by-mark mark.Settled k p′ P′ h =
-    let e : k ≡ 156 = only-156 k p′ P′ h in
-    subst (λ (j : ℕ). Forced156 (methodOfMark mark.Settled) (pos j) p′ P′) (sym e) (forced p′ P′ (subst (λ (j : ℕ). SettledAt 22830 5050 j p′ P′) e h))
-by-mark mark.Near k p′ P′ h = absurd (never-near k p′ P′ h)
+marked-156 : (m : Mark) (k p P : ℕ) → Marked m 22830 5050 k p P → Forced156 (methodOfMark m) (pos k) p P
+marked-156 mark.Settled k p P h =
+    let e : k ≡ 156 = only-156 k p P h in
+    subst (λ (j : ℕ). Forced156 (methodOfMark mark.Settled) (pos j) p P) (sym e) (forced-156 p P (subst (λ (j : ℕ). SettledAt 22830 5050 j p P) e h))
+marked-156 mark.Near k p P h = absurd (never-near k p P h)
 
-only-b : (a : Answer) → RightAnswer 22830 5050 a → Forced156 (methodOf a) (indexOf a) (lowerOf a) (upperOf a)
-only-b (Refused n) r = let z : n ≡ 0 = r .number in let some : 0 < n = r .case in absurd (omega arith)
-only-b (A i) r = let h : H-at 5050 ≤ inUnits 22830 = r .case .0 in absurd (omega (arith, starred-basis .h-5050))
-only-b (B b) r = by-mark (b .mark) (b .index) (b .lower) (b .upper) (r .case .marked)
+-- ---- (144936, 16776): Q·N and that of 124.5 lie between 1,176,125 and 1,176,126; c(12450) is 11,751,750
+
+p125 : ℕ
+p125 = 1176125
+
+p125-is : p125 ≡ 1176125
+unfolding p125
+p125-is = refl
+
+numbers-125 : Numbers 144936 16776 1766160000000 p125 11751749999 11751750001
+unfolding p125 H-at atPlace entry table1 log2Of fractionOf mantissa zerosOf entryAt entryOf timesFactor levelLog levelRest tailOf restOf firstTable secondTable leadingZeros
+numbers-125 =
+    record {
+      h-is = refl;
+      y-log = enclosed _ tt tt;
+      h-log = enclosed _ tt tt;
+      thicker-log = enclosed _ tt tt;
+      thinner-log = enclosed _ tt tt;
+      most-log = enclosed _ tt tt;
+      least-log = enclosed _ tt tt;
+      lower = lit≤ tt;
+      upper = lit≤ tt;
+      index-most = lit≤ tt;
+      index-least = lit≤ tt;
+    }
+
+module _ (k p P : ℕ) where
+  never-settled : SettledAt 144936 16776 k p P → ⊥
+  never-settled h =
+      let low = least-bound _ _ _ _ _ _ (omega arith) (omega arith) numbers-125 _ p (h .at-least) in
+      let high = most-bound _ _ _ _ _ _ (omega arith) (omega arith) numbers-125 _ P (h .at-most) in
+      omega arith
+
+  only-125 : NearAt 144936 16776 k p P → k ≡ 125
+  only-125 h =
+      let low = least-bound _ _ _ _ _ _ (omega arith) (omega arith) numbers-125 _ p (h .at-least) in
+      let high = most-bound _ _ _ _ _ _ (omega arith) (omega arith) numbers-125 _ P (h .at-most) in
+      omega arith
+
+forced-125 : (p P : ℕ) → NearAt 144936 16776 125 p P → ForcedNear125 (methodOfMark mark.Near) (pos 125) p P
+forced-125 p P h =
+    record {
+      near = refl;
+      index-is = refl;
+      shown = h;
+      lower-most = omega (arith, p125-is, lower-most _ _ _ _ _ _ (omega arith) (omega arith) numbers-125 _ p (h .at-least));
+      upper-least = omega (arith, p125-is, upper-least _ _ _ _ _ _ (omega arith) (omega arith) numbers-125 _ P (h .at-most));
+    }
+
+marked-125 : (m : Mark) (k p P : ℕ) → Marked m 144936 16776 k p P → ForcedNear125 (methodOfMark m) (pos k) p P
+marked-125 mark.Settled k p P h = absurd (never-settled k p P h)
+marked-125 mark.Near k p P h =
+    let e : k ≡ 125 = only-125 k p P h in
+    subst (λ (j : ℕ). ForcedNear125 (methodOfMark mark.Near) (pos j) p P) (sym e) (forced-125 p P (subst (λ (j : ℕ). NearAt 144936 16776 j p P) e h))
 
 pub forced-answers : ForcedAnswers
-forced-answers = record { by-a = only-92; by-b = only-b; refused = only-refused }
+forced-answers =
+    record {
+      by-a = by-a;
+      at-h = at-h;
+      half = half;
+      negative-half = negative-half;
+      thickest = thickest;
+      by-b =
+          by-mark (λ (a : Answer). Forced156 (methodOf a) (indexOf a) (lowerOf a) (upperOf a)) 22830 5050 refl (omega (arith, numbers-156 .h-is))
+          (λ b h. marked-156 (b .mark) (b .index) (b .lower) (b .upper) h);
+      near =
+          by-mark (λ (a : Answer). ForcedNear125 (methodOf a) (indexOf a) (lowerOf a) (upperOf a)) 144936 16776 refl (omega (arith, numbers-125 .h-is))
+          (λ b h. marked-125 (b .mark) (b .index) (b .lower) (b .upper) h);
+      refused = only-refused;
+    }

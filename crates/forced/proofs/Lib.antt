@@ -1,3 +1,4 @@
 -- The proofs of the two statements.
+pub mod Fractions
 pub mod ForcedAnswers
 pub mod Forced

@@ -5,7 +5,7 @@ use Rattle.reference.specs.Basis.{entry, atPlace, L-at, H-at}
 use Rattle.reference.proofs.Examples.{starred-basis}
 use Rattle.index.specs.ProcedureA.{roundedA, indexA}
 use Rattle.index.specs.ChosenAnswer.{answerOf}
-use Rattle.index.specs.Examples.{StarredExamples}
+use Rattle.index.specs.Examples.{StarredExamples, RefusedExamples}
 
 pub starred-examples : StarredExamples
 unfolding answerOf indexA roundedA L-at H-at atPlace entry table1
@@ -24,3 +24,6 @@ starred-examples =
       above-70-exact = refl;
       above-70 = refl;
     }
+
+pub refused-examples : RefusedExamples
+refused-examples = record { refused-1 = refl; refused-2 = refl; refused-3 = refl; refused-4 = refl; thinnest = refl; thickest = refl }

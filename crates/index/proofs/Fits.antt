@@ -18,7 +18,7 @@ use Rattle.index.specs.Preconditions.{Passes}
 use Rattle.index.proofs.QuestionOrder.{passes}
 use Rattle.index.proofs.ProcedureA.{index-fits}
 use Rattle.index.proofs.Consistent.{lower-at-most-upper}
-use Rattle.index.proofs.Determined.{marked-least, marked-most}
+use Rattle.index.proofs.Determined.{b-least, b-most}
 use Rattle.index.proofs.Right.{right}
 
 pub record Fits (a : Answer) : Type 0 where
@@ -34,10 +34,8 @@ upper-most u y k P h a =
 
 b-fits : (u y : ℕ) (b : ByB) → Passes u y → RightB u y b → Fits (B b)
 b-fits u y b q r =
-    let least = marked-least u y (b .mark) (b .index) (b .lower) (b .upper) (r .marked) in
-    let most = marked-most u y (b .mark) (b .index) (b .lower) (b .upper) (r .marked) in
-    let up = upper-most u y (b .index) (b .upper) (r .most) most in
-    let low = lower-at-most-upper u y _ _ (b .lower) (b .upper) (omega (arith, q .least)) (omega (arith, q .least, q .thicker)) least most in
+    let up = upper-most u y (b .index) (b .upper) (r .most) (b-most u y b r) in
+    let low = lower-at-most-upper u y _ _ (b .lower) (b .upper) (omega (arith, q .least)) (omega (arith, q .least, q .thicker)) (b-least u y b r) (b-most u y b r) in
     record { index = omega (arith, r .most); lower = omega (arith, low, up, Q-is); upper = omega (arith, up, Q-is) }
 
 pub right-fits : (u y : ℕ) (a : Answer) → RightAnswer u y a → Fits a

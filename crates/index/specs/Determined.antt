@@ -1,8 +1,9 @@
--- What document 01 leaves free, and nothing else: any two right answers to one pair agree but for p and P, and but for the index and the mark beside a
--- half. No program is mentioned. proofs/Determined.antt shows it.
-use Prim.Native.Nat.{ℕ, _+_, _*_}
+-- What document 01 leaves free, and nothing else: any two right answers to one pair agree but for p and P and, where the exact value is within 0.01 of a
+-- half, but for the mark and which of the two whole numbers beside that half is the index. No program is mentioned. proofs/Determined.antt shows it.
+use Prim.Native.Nat.{ℕ, _+_, _*_, _-_}
 use mathlib.Core.Path.{_≡_}
 use mathlib.Core.Logic.{_⊎_}
+use Rattle.shown_index.specs.declared.ByB.{ByB}
 use Rattle.index.specs.declared.answer.Answer.{Answer}
 use Rattle.index.specs.declared.answer.Answer.the-variants.{Refused, A, B}
 use Rattle.index.specs.ProcedureB.{AtLeast, AtMost}
@@ -15,15 +16,19 @@ pub record BesideTheHalf (u y k : ℕ) : Type 0 where
   pub at-least : AtLeast u y (100 * k + 49) lower
   pub at-most : AtMost u y (100 * k + 51) upper
 
--- one index, or two that are next to each other, with the exact value beside the half between them
-abbrev pub SameOrBeside : ℕ → ℕ → ℕ → ℕ → Type 0
-SameOrBeside u y k m = (k ≡ m) ⊎ ((m ≡ k + 1) × BesideTheHalf u y k) ⊎ ((k ≡ m + 1) × BesideTheHalf u y m)
+-- two answers by B: one index, and one mark unless the exact value is beside the half below it; or two indices that are next to each other, with the exact
+-- value beside the half between them
+abbrev pub AgreeByB : ℕ → ℕ → ByB → ByB → Type 0
+AgreeByB u y b d =
+    ((b .index ≡ d .index) × ((b .mark ≡ d .mark) ⊎ BesideTheHalf u y (b .index - 1)))
+    ⊎ ((d .index ≡ b .index + 1) × BesideTheHalf u y (b .index))
+    ⊎ ((b .index ≡ d .index + 1) × BesideTheHalf u y (d .index))
 
--- two answers that agree: refused with the same number, or both by A with the same index, or both by B
+-- two answers that agree: refused with the same number, or both by A with the same index, or both by B as above
 abbrev pub Agree : ℕ → ℕ → Answer → Answer → Type 0
 Agree u y (Refused n) (Refused m) = n ≡ m
 Agree u y (A i) (A j) = i ≡ j
-Agree u y (B b) (B d) = SameOrBeside u y (b .index) (d .index)
+Agree u y (B b) (B d) = AgreeByB u y b d
 Agree u y (Refused n) (A i) = ⊥
 Agree u y (Refused n) (B b) = ⊥
 Agree u y (A i) (Refused n) = ⊥

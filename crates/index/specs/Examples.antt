@@ -7,6 +7,7 @@ use Rattle.reference.specs.Viscosity.{inUnits}
 use Rattle.reference.specs.Basis.{L-at, H-at}
 use Rattle.reference.specs.Examples.{StarredBasis}
 use Rattle.index.specs.declared.answer.Answer.the-variants.{A}
+use Rattle.index.specs.Questions.{refusal}
 use Rattle.index.specs.ChosenAnswer.{answerOf}
 
 -- a negative number is `negsuc n`, which is −(n + 1)
@@ -31,3 +32,12 @@ pub record StarredExamples : Type 0 where
   -- "(6188000, 100000): A 50." It is exactly 50: L − U is half of L − H
   pub above-70-exact : 2 * (L-at 100000 - inUnits 6188000) ≡ L-at 100000 - H-at 100000
   pub above-70 : answerOf 6188000 100000 ≡ A (pos 50)
+
+-- and those that are refused: "y 1999: 1; 500001: 2; (1000000001, 2000): 3; (2000, 2000): 4", with the pairs beside them that are not
+pub record RefusedExamples : Type 0 where
+  pub refused-1 : refusal 20000 1999 ≡ 1
+  pub refused-2 : refusal 900000 500001 ≡ 2
+  pub refused-3 : refusal 1000000001 2000 ≡ 3
+  pub refused-4 : refusal 2000 2000 ≡ 4
+  pub thinnest : refusal 2001 2000 ≡ 0
+  pub thickest : refusal 1000000000 500000 ≡ 0

@@ -94,7 +94,7 @@ values-add p t =
 pub record Climbs (y y′ : ℕ) : Type 0 where
   pub l : L-at y ≤ L-at y′
   pub h : H-at y ≤ H-at y′
-  pub l-less-h : L-at y - H-at y ≤ L-at y′ - H-at y′
+  pub difference : L-at y - H-at y ≤ L-at y′ - H-at y′
 
 pub climbs : (y y′ : ℕ) → least100 ≤ y → y ≤ y′ → y′ ≤ lastRow → Climbs y y′
 unfolding L-at H-at rowDifference
@@ -108,6 +108,6 @@ climbs y y′ low h high =
     record {
       l = rw (e, e′) (along rowL (λ i a. le-of-lt (table-rises .rises i a .l)));
       h = rw (e, e′) (along rowH (λ i a. le-of-lt (table-rises .rises i a .h)));
-      l-less-h = rw (e, e′)
-          (omega (arith, values-add (placeOf y) (s .in-table), values-add (placeOf y′) (s′ .in-table), along rowDifference (λ i a. le-of-lt (table-rises .rises i a .l-less-h))));
+      difference = rw (e, e′)
+          (omega (arith, values-add (placeOf y) (s .in-table), values-add (placeOf y′) (s′ .in-table), along rowDifference (λ i a. le-of-lt (table-rises .rises i a .difference))));
     }

@@ -3,7 +3,7 @@ use mathlib.Core.Path.{refl}
 use lib.Dec.{lit<}
 use Rattle.reference.specs.Table1.{table1}
 use Rattle.reference.specs.Basis.{entry, atPlace, L-at, H-at}
-use Rattle.reference.specs.Examples.{StarredBasis, QuadraticsByHand, KnownDifferences}
+use Rattle.reference.specs.Examples.{StarredBasis, Limits, QuadraticsByHand, KnownDifferences}
 
 pub starred-basis : StarredBasis
 unfolding L-at H-at atPlace entry table1
@@ -17,6 +17,9 @@ starred-basis =
       l-70001 = refl;
       below-70 = lit< tt;
     }
+
+pub limits : Limits
+limits = record { below-least = refl; least = refl; greatest = refl; above-greatest = refl; thickest = refl; too-thick = refl }
 
 pub quadratics-by-hand : QuadraticsByHand
 unfolding L-at H-at

@@ -42,7 +42,7 @@ table-rises =
           record {
             l = ltb→lt (rowL i) (rowL (i + 1)) (and-left (riseL i) (riseH i && riseDifference i) t);
             h = ltb→lt (rowH i) (rowH (i + 1)) (and-left (riseH i) (riseDifference i) u);
-            l-less-h = ltb→lt (rowL i - rowH i) (rowL (i + 1) - rowH (i + 1)) (and-right (riseH i) (riseDifference i) u);
+            difference = ltb→lt (rowL i - rowH i) (rowL (i + 1) - rowH (i + 1)) (and-right (riseH i) (riseDifference i) u);
           };
     }
 
@@ -50,5 +50,5 @@ table-rises =
 pub rows-apart : (i : ℕ) → i < rowCount → rowH i + leastRowDifference ≤ rowL i
 rows-apart zero h = first-row-apart
 rows-apart (suc i) h =
-    let g : rowL i - rowH i < rowL (suc i) - rowH (suc i) = rw add-one at (table-rises .rises i (omega arith) .l-less-h) in
+    let g : rowL i - rowH i < rowL (suc i) - rowH (suc i) = rw add-one at (table-rises .rises i (omega arith) .difference) in
     omega (arith, rows-apart i (omega arith))

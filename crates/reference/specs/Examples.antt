@@ -1,10 +1,13 @@
 -- Document 01, 'Pairs and sheets to try': the starred examples about L and H, in units of 10^-10 mm²/s, as one statement.
--- And what else can be held against the papers without a program: the quadratics at three viscosities, and the rows where the sources differ.
+-- And what else can be held against the papers without a program: the limits, the quadratics at three viscosities, and the rows where the sources
+-- differ.
 -- proofs/Examples.antt shows all from the definitions by computation.
 use Prim.Native.Nat.{_<_}
 use mathlib.Core.Path.{_≡_}
-use Rattle.reference.specs.Viscosity.{inUnits}
-use Rattle.reference.specs.Basis.{rowL, rowH, lastRowAt, viscosityOf, L-at, H-at}
+use Rattle.reference.specs.declared.Asked40.the-variants as at40
+use Rattle.reference.specs.declared.BasisAnswer.the-variants.{Refused, Found}
+use Rattle.reference.specs.Viscosity.{asked40, inUnits}
+use Rattle.reference.specs.Basis.{rowL, rowH, lastRowAt, viscosityOf, L-at, H-at, basisOf, basisAnswerOf}
 
 pub record StarredBasis : Type 0 where
   -- "y 8860: L 119.94, H 69.48 mm²/s"
@@ -18,6 +21,15 @@ pub record StarredBasis : Type 0 where
   -- "y 70001: L is 49,040,016,128,353 units, below the row at 70", which is the last one
   pub l-70001 : L-at 70001 ≡ 49040016128353
   pub below-70 : L-at 70001 < inUnits (rowL lastRowAt)
+
+-- Questions 1 to 3 at their limits: "y 1999: 1; 500001: 2; (1000000001, 2000): 3", and the numbers beside them, which are taken
+pub record Limits : Type 0 where
+  pub below-least : basisAnswerOf 1999 ≡ Refused 1
+  pub least : basisAnswerOf 2000 ≡ Found (basisOf 2000)
+  pub greatest : basisAnswerOf 500000 ≡ Found (basisOf 500000)
+  pub above-greatest : basisAnswerOf 500001 ≡ Refused 2
+  pub thickest : asked40 1000000000 ≡ at40.Within (record { thousandths = 1000000000 })
+  pub too-thick : asked40 1000000001 ≡ at40.Refused 3
 
 -- The standard's formulas, L = 0.8353·Y² + 14.67·Y − 216 and H = 0.1684·Y² + 11.85·Y − 97, worked by hand at 100, 200 and 500 mm²/s: L and H in
 -- thousandths. Two quadratics that agree at three viscosities are one

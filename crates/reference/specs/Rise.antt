@@ -6,7 +6,7 @@ use Rattle.reference.specs.Basis.{rowL, rowH, lastRowAt}
 pub record RisesFrom (i : ℕ) : Type 0 where
   pub l : rowL i < rowL (i + 1)
   pub h : rowH i < rowH (i + 1)
-  pub l-less-h : rowL i - rowH i < rowL (i + 1) - rowH (i + 1)
+  pub difference : rowL i - rowH i < rowL (i + 1) - rowH (i + 1)
 
 -- every row but the last has a next one; and at the first row L is above H, so that the rise of L − H says it of every row
 pub record TableRises : Type 0 where

@@ -4,7 +4,6 @@ use mathlib.Core.Path.{_≡_, refl, _∙_, subst}
 use mathlib.Core.List.{List}
 use mathlib.Core.Logic.{_⊎_, inl, inr}
 use native.Mathlib.Omega.{arith}
-use lib.Signed.{_≤ℤ_}
 use Rattle.reference.specs.Basis.{H-at}
 use Rattle.reference.specs.Viscosity.{inUnits}
 use Rattle.shown_index.specs.declared.Mark.{Mark}
@@ -16,10 +15,9 @@ use Rattle.index.specs.Answer.{methodOfMark, RightAnswer}
 use Rattle.index.proofs.Right.{right}
 use Rattle.index.proofs.Fits.{right-fits}
 use Rattle.index.proofs.Order.{in-order}
-use Rattle.answer_record.specs.Record.{RecordOfPair}
 use Rattle.answer_record.proofs.Fields.{FieldsRead, fields-read}
-use Rattle.sheet.specs.Sheet.{sheetRefusal, sheetAfter}
-use Rattle.sheet.specs.Demand3.{n, u, y, offset, bytes, index, Answered, BelowH, MarkedNear, Shown, AfterTheCall, Demand3}
+use Rattle.sheet.specs.Sheet.{pairsOf, answerAt, sheetRefusal, sheetAfter}
+use Rattle.sheet.specs.Demand3.{n, u, y, offset, RightRecords, Answered, BelowH, Shown, Certified, Ordered, AfterTheCall, Demand3}
 use Rattle.sheet.proofs.RecordsAfter.{record-found}
 
 by-mark : (m : Mark) (u y k p P : ℕ) → Marked m u y k p P
@@ -40,26 +38,33 @@ shown before after i (A index) f r q h =
 shown before after i (B b) f r q h =
     record { k = b .index; index-is = f .index; marked = rw (f .method, f .lower, f .upper) (by-mark (b .mark) _ _ _ _ _ (r .case .marked)) }
 
--- the first sentence of demand 3 gives the other two: an answer that is right fits its fields, so that the record's own bytes say what is right
-module _ (before after : List ℕ) (records : (i : ℕ) → i < n before after → RecordOfPair (u before after i) (y before after i) (bytes before after i)) where
+-- that each record is a right answer's gives the second and the third sentence of demand 3: a right answer fits its fields, so that the record's own bytes
+-- say what is right
+module _ (before after : List ℕ) (records : RightRecords before after) where
   pub read : (i : ℕ) (h : i < n before after) → FieldsRead after (offset before after i) (records i h .answer)
   read i h = let r = records i h in fields-read after (offset before after i) (r .answer) (r .laid-out) (right-fits _ _ (r .answer) (r .right))
 
-  falls : (i j : ℕ) → i < n before after → j < n before after → Answered before after i → Answered before after j
-      → y before after i ≡ y before after j → (MarkedNear before after i → ⊥) → (MarkedNear before after j → ⊥)
-      → u before after i < u before after j → index before after j ≤ℤ index before after i
-  falls i j h k a b e c d l =
+  pub certified : Certified before after
+  certified i h = shown before after i _ (read i h) (records i h .right)
+
+  pub ordered : Ordered before after
+  ordered i j h k a b e c d l =
       rw (read i h .index, read j k .index)
       (in-order .right (u before after i) (u before after j) (y before after j) (records i h .answer) (records j k .answer)
       (subst (λ (w : ℕ). RightAnswer (u before after i) w (records i h .answer)) e (records i h .right)) (records j k .right)
       (rw e at a) b (λ m. c (read i h .method ∙ m)) (λ m. d (read j k .method ∙ m)) l)
 
-  pub all-follow : AfterTheCall before after
-  all-follow = record { records = records; below = λ i h. shown before after i _ (read i h) (records i h .right); order = falls }
+right-records : (s : List ℕ) → sheetRefusal s ≡ 0 → RightRecords s (sheetAfter s)
+right-records s q i h = record { answer = answerAt s (pairsOf s) i; right = right _ _; laid-out = record-found s q i h }
 
 after-the-call : (s : List ℕ) → sheetRefusal s ≡ 0 → AfterTheCall s (sheetAfter s)
+unfolding right-records
 after-the-call s q =
-    all-follow s (sheetAfter s) (λ i h. record { answer = _; alone = refl; right = right _ _; laid-out = record-found s q i h })
+    record {
+      records = λ i h. record { of-right = right-records s q i h; alone = refl };
+      below = certified s (sheetAfter s) (right-records s q);
+      order = ordered s (sheetAfter s) (right-records s q);
+    }
 
 pub demand3 : (before after : List ℕ) → after ≡ sheetAfter before → Demand3 before after
 demand3 before after e q = rw e (after-the-call before q)

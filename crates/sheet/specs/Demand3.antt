@@ -13,7 +13,7 @@ use Rattle.shown_index.specs.declared.Mark.the-variants as mark
 use Rattle.index.specs.Questions.{refusal}
 use Rattle.index.specs.ProcedureB.{SettledAt, NearAt}
 use Rattle.index.specs.Answer.{methodOfMark}
-use Rattle.answer_record.specs.Record.{resultSize, recordAt, methodAt, indexAt, lowerAt, upperAt, RecordOfPair}
+use Rattle.answer_record.specs.Record.{resultSize, recordAt, methodAt, indexAt, lowerAt, upperAt, RightRecord, RecordOfPair}
 use Rattle.sheet.specs.Sheet.{countOf, pairsOf, resultsOf, uAt, yAt, sheetRefusal}
 
 module _ (before after : List ℕ) where
@@ -69,18 +69,31 @@ module _ (before after : List ℕ) where
         (MarkedSettled i × SettledAt (u i) (y i) k (lower i) (upper i))
         ⊎ (MarkedNear i × NearAt (u i) (y i) k (lower i) (upper i))
 
+  -- "The result block holds one record for each pair, in the order of the pairs, and each record is exactly the answer that its own pair
+  -- gets when asked alone, by document 01's questions and procedures."
+  abbrev pub Records : Type 0
+  Records = (i : ℕ) → i < n → RecordOfPair (u i) (y i) (bytes i)
+
+  -- the same without the words "when asked alone": each record is that of some right answer. The other two sentences follow from it
+  abbrev pub RightRecords : Type 0
+  RightRecords = (i : ℕ) → i < n → RightRecord (u i) (y i) (bytes i)
+
+  -- "Each settled index k of an oil below H has the standard's exact value from k − 0.5 to k + 0.5, and each near one from k − 0.51 to
+  -- k − 0.49, both shown by whole-number powers of the two fractions in that record."
+  abbrev pub Certified : Type 0
+  Certified = (i : ℕ) → i < n → Answered i → BelowH i → Shown i
+
+  -- "Of any two answered records with equal viscosity at 100 °C, neither marked near, the one thicker at 40 °C never has the higher
+  -- index, wherever the two stand and whichever procedure gave each."
+  abbrev pub Ordered : Type 0
+  Ordered =
+      (i j : ℕ) → i < n → j < n → Answered i → Answered j → y i ≡ y j → (MarkedNear i → ⊥) → (MarkedNear j → ⊥)
+      → u i < u j → index j ≤ℤ index i
+
   pub record AfterTheCall : Type 0 where
-    -- "The result block holds one record for each pair, in the order of the pairs, and each record is exactly the answer that its own pair
-    -- gets when asked alone, by document 01's questions and procedures."
-    pub records : (i : ℕ) → i < n → RecordOfPair (u i) (y i) (bytes i)
-    -- "Each settled index k of an oil below H has the standard's exact value from k − 0.5 to k + 0.5, and each near one from k − 0.51 to
-    -- k − 0.49, both shown by whole-number powers of the two fractions in that record."
-    pub below : (i : ℕ) → i < n → Answered i → BelowH i → Shown i
-    -- "Of any two answered records with equal viscosity at 100 °C, neither marked near, the one thicker at 40 °C never has the higher
-    -- index, wherever the two stand and whichever procedure gave each."
-    pub order : (i j : ℕ) → i < n → j < n → Answered i → Answered j
-        → y i ≡ y j → (MarkedNear i → ⊥) → (MarkedNear j → ⊥)
-        → u i < u j → index j ≤ℤ index i
+    pub records : Records
+    pub below : Certified
+    pub order : Ordered
 
 -- "For every accepted sheet of 0 to 2,000 pairs, whichever of them are refused and whatever its result block held before, this is true
 -- after the one call that works it."

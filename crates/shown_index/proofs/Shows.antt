@@ -113,7 +113,7 @@ most-easier P R r l e = true-most R r (omega (arith, most-true P r e))
 
 -- ---- what they show
 
-no-factor : (p x : ℕ) → 1 ^ p * x ≡ x
+pub no-factor : (p x : ℕ) → 1 ^ p * x ≡ x
 no-factor p x = ap (λ (k : ℕ). k * x) (one-pow p) ∙ one-mul x
 
 seven : 10000000 ^ Q ≡ 10 ^ (7 * Q)

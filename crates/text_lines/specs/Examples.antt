@@ -25,7 +25,7 @@ pub record ExampleLines : Type 0 where
   pub refused : line 20000 1999 (Refused 1) ≡ ascii "20.000 1.999 refused 1\n"
   -- an index below zero: negsuc 62499499 is −62,499,500
   pub below-zero : line 1000000000 2000 (A (negsuc 62499499)) ≡ ascii "1000000.000 2.000 A -62499500\n"
-  pub near : line 28489 5000 (byB 100 Near) ≡ ascii "28.489 5.000 B~ 100\n"
+  pub near : line 144936 16776 (byB 125 Near) ≡ ascii "144.936 16.776 B~ 125\n"
   -- u and y of a refused pair may be any 32-bit numbers
   pub widest : line 4294967295 4294967295 (Refused 2) ≡ ascii "4294967.295 4294967.295 refused 2\n"
   pub narrowest : line 0 7 (Refused 1) ≡ ascii "0.000 0.007 refused 1\n"

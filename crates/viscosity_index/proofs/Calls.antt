@@ -26,7 +26,7 @@ whole lent after a h e = e ∙ stored-whole lent (recordOf a) (length-record a �
 pub filled : (u y number : ℕ) (lent after : List ℕ) {a : Answer} → length lent ≡ resultSize → a ≡ answerOf u y → RightAnswer u y a
     → after ≡ recordOf a → number ≡ numberOf a → PairCall u y lent number after
 filled u y number lent after {a} h alone right bytes same = record {
-  just-16 = λ _. record { result = record { answer = a; alone = alone; right = right; laid-out = bytes }; number-is = same };
+  just-16 = λ _. record { result = record { of-right = record { answer = a; right = right; laid-out = bytes }; alone = alone }; number-is = same };
   not-16 = λ other. absurd (other h);
 }
 

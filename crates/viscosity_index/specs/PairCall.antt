@@ -29,7 +29,7 @@ recordAfter lent u y = cond (just16 lent) (recordOf (answerOf u y)) lent
 -- what the call answers and leaves in a record of 16 bytes: the number and the record of a right answer to the pair
 pub record Filled (u y number : ℕ) (after : List ℕ) : Type 0 where
   pub result : RecordOfPair u y after
-  pub number-is : number ≡ numberOf (result .answer)
+  pub number-is : number ≡ numberOf (result .of-right .answer)
 
 -- what the call answers and leaves, whatever is lent
 pub record PairCall (u y : ℕ) (lent : List ℕ) (number : ℕ) (after : List ℕ) : Type 0 where
