@@ -480,7 +480,7 @@ static void audit_record(const struct sheet *s, uint32_t i)
     const char *wrong = audit_pair(s->bytes + s->pairs + PAIR * i, record_of(s, i));
     checked++;
     if (wrong != NULL) {
-        printf("  REFUSED: record %" PRIu32 ": %s\n", i, wrong);
+        printf("  WRONG: record %" PRIu32 ": %s\n", i, wrong);
         failures++;
     } else {
         printf("  right\n");
@@ -622,7 +622,7 @@ int main(int argc, char **argv)
     ask_sheet(&s, &w);
     double start = seconds();
     audit_chosen(&s, &w);
-    printf("audit: %s: %d %s checked, %d refused, %.1f s, at most %ld MB\n", failures == 0 ? "passed" : "FAILED", checked,
+    printf("audit: %s: %d %s checked, %d wrong, %.1f s, at most %ld MB\n", failures == 0 ? "passed" : "FAILED", checked,
         records((uint32_t)checked), failures, seconds() - start, megabytes());
     ask_output();
     return failures == 0 ? RIGHT : WRONG;

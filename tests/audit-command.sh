@@ -130,22 +130,22 @@ nothing "all zeros" "the sheet is not worked" "$work/changed"
 poke 0 '\5' && poke 16 '\377'
 nothing "no number above 4" "the sheet is not worked" "$work/changed"
 poke 0 '\4'
-fails "a number of 4" "REFUSED: record 0: the number is not"
+fails "a number of 4" "WRONG: record 0: the number is not"
 zero 0 1 2
 poke 1 '\4' && poke 17 '\377'
 nothing "no method above 3" "the sheet is not worked" "$work/changed"
 poke 1 '\3'
-fails "a method of 3" "REFUSED: record 0: the method is not A"
+fails "a method of 3" "WRONG: record 0: the method is not A"
 zero 0 1
-fails "two records of zeros" "REFUSED: record 1: the method is not B"
+fails "two records of zeros" "WRONG: record 1: the method is not B"
 zero 0 2
-fails "the others of zeros" "REFUSED: record 2: the number is not"
+fails "the others of zeros" "WRONG: record 2: the number is not"
 zero 1
-fails "one record of zeros" "REFUSED: record 1: the method is not B"
+fails "one record of zeros" "WRONG: record 1: the method is not B"
 for byte in 0 2 3 4; do # number, bytes 2 and 3, index
     echo '22830 5050' | "$work/make_sheet" >"$work/changed" || die "making a sheet of one pair"
     poke $byte '\1'
-    fails "byte $byte of the only record" "REFUSED: record 0: "
+    fails "byte $byte of the only record" "WRONG: record 0: "
 done
 
 # ---- the sheet of samples/make-sheet, worked ----

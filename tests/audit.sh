@@ -52,7 +52,7 @@ full=$work/full.sheet
 } >"$work/pairs"
 head -n 2000 "$work/pairs" >"$work/pairs.2000"  # two steps: a pipe cut short is an error here
 "$work/make_sheet" <"$work/pairs.2000" >"$full" || die "the full sheet is refused"
-"$work/audit" --quick "$full" >"$work/out" || { grep REFUSED "$work/out"; die "the audit refuses a record"; }
+"$work/audit" --quick "$full" >"$work/out" || { grep WRONG "$work/out"; die "the audit refuses a record"; }
 grep -q '2000 records checked' "$work/out" || die "the full sheet has not 2,000 records"
 tail -n 1 "$work/out"
 "$work/audit" --quick --sample 20 --seed 3 "$full" | tail -n 1
@@ -64,7 +64,7 @@ judged=0 refused=0
 for seed in 1 2 3 4 5; do
     "$work/edges" $seed "$work/edge.sheet" "$work/expected" || die "making the sheet of edges"
     "$work/audit" --quick "$work/edge.sheet" >"$work/out" || true
-    sed -n 's/^ *REFUSED: record \([0-9]*\):.*/\1/p' "$work/out" >"$work/found"
+    sed -n 's/^ *WRONG: record \([0-9]*\):.*/\1/p' "$work/out" >"$work/found"
     cmp -s "$work/expected" "$work/found" ||
         die "the audit and oil.c differ, seed $seed, record $(diff "$work/expected" "$work/found" | sed -n 2p)"
     judged=$((judged + 2000))
@@ -90,7 +90,7 @@ refuses() {
     local code=0
     "$work/audit" $mode --record "$1" "$work/changed" >"$work/out" 2>&1 || code=$?
     [ $code = 1 ] || die "not refused: record $1, $2"
-    echo "refused: record $1, $2: $(sed -n 's/^ *REFUSED: record [0-9]*: //p' "$work/out")"
+    echo "refused: record $1, $2: $(sed -n 's/^ *WRONG: record [0-9]*: //p' "$work/out")"
     changes=$((changes + 1))
 }
 

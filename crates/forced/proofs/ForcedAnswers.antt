@@ -1,5 +1,5 @@
--- The answers to these pairs are forced. By A and where a pair is refused, the definitions compute. By B the two whole numbers beside Q·N bound what any
--- certificate shows of the index: of (22830, 5050) that it is from 156.42 to 156.43, of (144936, 16776) that it is neither below 124.5 nor above it.
+-- The answers to these pairs are forced. By A and where a pair is refused, the definitions compute. By B the two whole numbers beside Q·N bound what any p
+-- and P show of the index: of (22830, 5050) that it is from 156.42 to 156.43; of (144936, 16776) neither that it is at least nor that it is at most 124.5.
 use Prim.Native.Nat.{ℕ, _*_, _^_, _≤_, _<_}
 use mathlib.Core.Path.{_≡_, refl, sym, _∙_, ap, subst}
 use mathlib.Core.Bool.{true}

@@ -1,4 +1,4 @@
--- Certificates do not contradict each other: the two viscosity inequalities give p ≤ P, since Y is above 1, and the two index inequalities
+-- What p and P show is never contradicted by another p and P: the two viscosity inequalities give p ≤ P, since Y is above 1, and the two index inequalities
 -- then give c(r) ≤ c(s). Of a thicker oil they give p < P and c(r) < c(s).
 use Prim.Native.Nat.{ℕ, suc, _*_, _^_, _≤_, _<_}
 use native.Mathlib.Omega.{arith}

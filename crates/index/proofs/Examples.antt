@@ -26,4 +26,4 @@ starred-examples =
     }
 
 pub refused-examples : RefusedExamples
-refused-examples = record { refused-1 = refl; refused-2 = refl; refused-3 = refl; refused-4 = refl; thinnest = refl; thickest = refl }
+refused-examples = record { refused-1 = refl; refused-2 = refl; refused-3 = refl; refused-4 = refl; refused-first = refl; thinnest = refl; thickest = refl }

@@ -39,5 +39,7 @@ pub record RefusedExamples : Type 0 where
   pub refused-2 : refusal 900000 500001 ≡ 2
   pub refused-3 : refusal 1000000001 2000 ≡ 3
   pub refused-4 : refusal 2000 2000 ≡ 4
+  -- "the first no gives its number": of questions 2 and 3
+  pub refused-first : refusal 1000000001 500001 ≡ 2
   pub thinnest : refusal 2001 2000 ≡ 0
   pub thickest : refusal 1000000000 500000 ≡ 0

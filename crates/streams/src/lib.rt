@@ -4,7 +4,7 @@ use libc::STDERR_FILENO;
 use libc::STDIN_FILENO;
 use libc::STDOUT_FILENO;
 
-// Whether standard input can be read: a read of no bytes fails where one of more would, as of a folder.
+// Whether standard input can be read: a read of no bytes fails where it is a folder or closed.
 pub fn can_read() -> bool {
     let mut none = [0u8; 0];
     if libc::read(STDIN_FILENO, &mut none) < 0 {

@@ -1,4 +1,4 @@
-// The printing program: reads a sheet from standard input to its end, works it, and writes its text to standard output. What is written is the
+// The printing program: reads a sheet from standard input, works it, and writes its text to standard output. What is written is the
 // crate `report`'s promise.
 use libc::STDIN_FILENO;
 
