@@ -20,6 +20,7 @@ use Rattle.text_lines.specs.Lines.{outcome, printedLine, firstLine, refusedLine
 use Rattle.text_lines.specs.FromRecord.{outcomeAt, lineAt}
 use Rattle.text_lines.proofs.Outcomes.{outcome-by-fields}
 use Rattle.report.specs.Text.{printedLines, textBy, textOf, mostInput, printed, textAfter, inputAfter, tooLong}
+use Rattle.report.specs.LongestInput.{LongestInput}
 use Rattle.report.specs.FromRecords.{linesAt}
 use Rattle.report.specs.Preconditions.{Readable}
 
@@ -129,3 +130,7 @@ put-whole s lent {w} {count} {text} {vs} e p h =
       within = omega (arith, q .past, q .short, put-length q);
       bytes = put-at-start q h;
     }
+
+pub longest-input : LongestInput
+unfolding printed inputAfter
+longest-input = record { longest = λ input e. (rw e refl, rw e refl); one-more = λ input e. (rw e refl, rw e refl) }

@@ -1,9 +1,9 @@
--- Document 01, 'Pairs and sheets to try': the sheets, as one statement; and the greatest sheet. proofs/Examples.antt shows both from the definitions by
--- computation.
+-- Document 01, 'Pairs and sheets to try': the sheets, as one statement; the questions that they do not fail; and the greatest sheet. proofs/Examples.antt
+-- shows them from the definitions by computation.
 -- "16 bytes with n 0, offsets 16 and 16, total 16: accepted, unchanged. Pair offset 17 there: 14. Only the result offset 17: 15."
 use Prim.Native.Nat.{ℕ, _+_, _*_}
 use mathlib.Core.Path.{_≡_}
-use mathlib.Core.List.{List, _++_}
+use mathlib.Core.List.{List, [], _∷_, _++_}
 use lib.ListN.{length}
 use Rattle.answer_record.specs.Bytes.{bytesOf}
 use Rattle.sheet.specs.declared.SheetAnswer.the-variants.{Refused, Accepted}
@@ -18,6 +18,15 @@ pub record TriedSheets : Type 0 where
   pub unchanged : sheetAfter (headerAlone 0 16 16 16) ≡ headerAlone 0 16 16 16
   pub pair-offset : sheetAnswerOf (headerAlone 0 17 16 16) ≡ Refused 14
   pub result-offset : sheetAnswerOf (headerAlone 0 16 17 16) ≡ Refused 15
+
+-- The other questions, each failed alone: "Has the buffer 16 bytes or more? No: 11. Does the total equal the buffer's length? No: 12. .. Do the blocks share
+-- no byte? No: 16." The last is of one pair at 16, whose result begins at 20
+pub record RefusedSheets : Type 0 where
+  pub no-header : sheetAnswerOf [] ≡ Refused 11
+  pub short-header : (byte : ℕ) → sheetAnswerOf (bytesOf 0 ++ (bytesOf 16 ++ (bytesOf 16 ++ (byte ∷ byte ∷ byte ∷ [])))) ≡ Refused 11
+  pub total-below : sheetAnswerOf (headerAlone 0 16 16 15) ≡ Refused 12
+  pub total-above : sheetAnswerOf (headerAlone 0 16 16 17) ≡ Refused 12
+  pub shared : (blocks : List ℕ) → length blocks ≡ 20 → sheetAnswerOf (headerAlone 1 16 20 36 ++ blocks) ≡ Refused 16
 
 -- a sheet of n pairs with its results after them, as a header and the 24 bytes that each pair and its record take, whatever they hold
 abbrev pub sheetOf : ℕ → List ℕ → List ℕ

@@ -13,11 +13,15 @@ use Rattle.answer_record.proofs.Records.{length-record}
 use Rattle.sheet.specs.declared.SheetAnswer.{SheetAnswer}
 use Rattle.sheet.specs.Sheet.{sheetRefusal, sheetAnswerOf, sheetNumberOf}
 use Rattle.sheet.proofs.Worked.{number-of-answer}
-use Rattle.viscosity_index.specs.PairCall.{notARecord, PairCall}
+use Rattle.viscosity_index.specs.PairCall.{notARecord, pairNumber, recordAfter, PairCall, NoRecord}
 
 -- a record of another length: its number, and the record as it was
 pub untouched : (u y : ℕ) (lent : List ℕ) → (length lent ≡ resultSize → ⊥) → PairCall u y lent notARecord lent
 untouched u y lent h = record { just-16 = λ e. absurd (h e); not-16 = λ _. (refl, refl) }
+
+pub no-record : NoRecord
+unfolding pairNumber recordAfter
+no-record = record { number = λ u y. refl; untouched = λ u y. refl }
 
 -- a record of 16 bytes: all of it is the record that was stored from its start on
 pub whole : (lent after : List ℕ) (a : Answer) → length lent ≡ resultSize → after ≡ stored lent 0 (recordOf a) → after ≡ recordOf a

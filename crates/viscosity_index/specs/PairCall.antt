@@ -3,7 +3,7 @@
 use Prim.Native.Nat.{ℕ}
 use mathlib.Core.Path.{_≡_}
 use mathlib.Core.Bool.{Bool, cond}
-use mathlib.Core.List.{List}
+use mathlib.Core.List.{List, []}
 use lib.Dec.{eqb}
 use lib.ListN.{length}
 use Rattle.index.specs.Questions.{ask}
@@ -35,3 +35,8 @@ pub record Filled (u y number : ℕ) (after : List ℕ) : Type 0 where
 pub record PairCall (u y : ℕ) (lent : List ℕ) (number : ℕ) (after : List ℕ) : Type 0 where
   pub just-16 : length lent ≡ resultSize → Filled u y number after
   pub not-16 : (length lent ≡ resultSize → ⊥) → (number ≡ notARecord) × (after ≡ lent)
+
+-- "(no: 5, record untouched)": a record of no bytes, whatever the pair
+pub record NoRecord : Type 0 where
+  pub number : (u y : ℕ) → pairNumber [] u y ≡ 5
+  pub untouched : (u y : ℕ) → recordAfter [] u y ≡ []
