@@ -8,6 +8,7 @@ use native.Mathlib.Nat.{le-trans, le-of-mul-le-mul-right, one-le-pow}
 use lib.Dec.{lit≤}
 use lib.IntN.{ℤ, pos, negsuc}
 use lib.Count.{leadingZeros}
+use Rattle.laws.proofs.Contradiction.{impossible, not-some}
 use Rattle.laws.proofs.Powers.{exponents-le}
 use Rattle.reference.specs.Viscosity.{inUnits}
 use Rattle.reference.specs.Table1.{table1}
@@ -31,11 +32,8 @@ use Rattle.forced.proofs.Fractions.{enclosed, Numbers, lower-most, uppe
 
 -- ---- by A, and refused
 
-no-refusal : (n : ℕ) → n ≡ 0 → 0 < n → ⊥
-no-refusal n z p = omega arith
-
 only-a : (u y : ℕ) (i : ℤ) → refusal u y ≡ 0 → H-at y ≤ inUnits u → indexA u y ≡ i → (a : Answer) → RightAnswer u y a → a ≡ A i
-only-a u y i q h e (Refused n) r = absurd (no-refusal n (r .number ∙ q) (r .case))
+only-a u y i q h e (Refused n) r = not-some n (r .number ∙ q) (r .case)
 only-a u y i q h e (A x) r = ap A (r .case .1 ∙ e)
 only-a u y i q h e (B b) r = let below : inUnits u < H-at y = r .case .below in absurd (omega arith)
 
@@ -59,13 +57,10 @@ thickest : (a : Answer) → RightAnswer 1000000000 2000 a → a ≡ A (negsuc 62
 unfolding indexA roundedA L-at H-at atPlace entry table1
 thickest = only-a 1000000000 2000 (negsuc 62499499) refl (lit≤ tt) refl
 
-zero-not-one : _≡_ {A = ℕ} 0 1 → ⊥
-zero-not-one e = omega arith
-
 only-refused : (a : Answer) → RightAnswer 20000 1999 a → a ≡ Refused 1
 only-refused (Refused n) r = ap Refused (r .number)
-only-refused (A i) r = absurd (zero-not-one (r .number))
-only-refused (B b) r = absurd (zero-not-one (r .number))
+only-refused (A i) r = impossible (r .number)
+only-refused (B b) r = impossible (r .number)
 
 -- ---- by B
 
@@ -76,7 +71,7 @@ exponents a b h = exponents-le 10 a b (omega arith) (le-of-mul-le-mul-right {k =
 -- a right answer to a pair below H is by B
 by-mark : (P : Answer → Type 0) (u y : ℕ) → refusal u y ≡ 0 → inUnits u < H-at y
     → ((b : ByB) → Marked (b .mark) u y (b .index) (b .lower) (b .upper) → P (B b)) → (a : Answer) → RightAnswer u y a → P a
-by-mark P u y q l f (Refused n) r = absurd (no-refusal n (r .number ∙ q) (r .case))
+by-mark P u y q l f (Refused n) r = not-some n (r .number ∙ q) (r .case)
 by-mark P u y q l f (A i) r = let h : H-at y ≤ inUnits u = r .case .0 in absurd (omega arith)
 by-mark P u y q l f (B b) r = f b (r .case .marked)
 

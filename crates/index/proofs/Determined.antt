@@ -5,6 +5,7 @@ use mathlib.Core.Path.{_≡_, refl, sym, _∙_, subst}
 use mathlib.Core.Logic.{_⊎_, inl, inr}
 use native.Mathlib.Omega.{arith}
 use native.Mathlib.Nat.{le-trans, pow-le-pow-left}
+use Rattle.laws.proofs.Contradiction.{not-some}
 use Rattle.laws.proofs.Order.{by-order}
 use Rattle.reference.specs.Viscosity.{inUnits}
 use Rattle.reference.specs.Basis.{H-at}
@@ -73,9 +74,6 @@ module _ (u y : ℕ) where
       let e : b .index ≡ d .index = omega arith in
       inl (e, same-mark (b .mark) (d .mark) (b .index) (b .lower) (b .upper) (d .lower) (d .upper) (r .least) (r .marked) (subst (λ (k : ℕ). Marked (d .mark) u y k (d .lower) (d .upper)) (sym e) (s .marked)))))
 
-  no-refusal : (n : ℕ) → n ≡ 0 → 0 < n → ⊥
-  no-refusal n z p = omega arith
-
   not-both : H-at y ≤ inUnits u → inUnits u < H-at y → ⊥
   not-both h l = omega arith
 
@@ -83,10 +81,10 @@ module _ (u y : ℕ) where
   agree (Refused n) (Refused m) r s = r .number ∙ sym (s .number)
   agree (A i) (A j) r s = r .case .1 ∙ sym (s .case .1)
   agree (B b) (B d) r s = by-marks b d (passes u y (sym (r .number))) (r .case) (s .case)
-  agree (Refused n) (A i) r s = no-refusal n (r .number ∙ sym (s .number)) (r .case)
-  agree (Refused n) (B b) r s = no-refusal n (r .number ∙ sym (s .number)) (r .case)
-  agree (A i) (Refused n) r s = no-refusal n (s .number ∙ sym (r .number)) (s .case)
-  agree (B b) (Refused n) r s = no-refusal n (s .number ∙ sym (r .number)) (s .case)
+  agree (Refused n) (A i) r s = not-some n (r .number ∙ sym (s .number)) (r .case)
+  agree (Refused n) (B b) r s = not-some n (r .number ∙ sym (s .number)) (r .case)
+  agree (A i) (Refused n) r s = not-some n (s .number ∙ sym (r .number)) (s .case)
+  agree (B b) (Refused n) r s = not-some n (s .number ∙ sym (r .number)) (s .case)
   agree (A i) (B b) r s = not-both (r .case .0) (s .case .below)
   agree (B b) (A i) r s = not-both (s .case .0) (r .case .below)
 

@@ -1,4 +1,4 @@
--- The laws of the pair operation, each leaning on those before it. Crates above cite Right, Fits, Order and Consistent.
+-- The laws of the pair operation, each leaning on those before it. Crates above cite Right, Fits and Order.
 pub mod QuestionOrder
 pub mod ProcedureA
 pub mod Consistent

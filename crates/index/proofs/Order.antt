@@ -4,6 +4,7 @@ use mathlib.Core.Path.{_≡_, refl, sym, ap, _∙_, subst₂}
 use native.Mathlib.Omega.{arith}
 use native.Mathlib.Nat.{mul-le-mul-left}
 use lib.Signed.{_≤ℤ_}
+use Rattle.laws.proofs.Contradiction.{not-some}
 use Rattle.laws.proofs.Order.{by-order, quotient-le}
 use Rattle.reference.specs.Viscosity.{inUnits}
 use Rattle.reference.specs.Basis.{H-at}
@@ -89,13 +90,10 @@ settled-falls u v y k m p P p′ P′ q l a b =
     omega arith
 
 module _ (u v y : ℕ) (e : refusal u y ≡ 0) (f : refusal v y ≡ 0) (l : u < v) where
-  never-refused : (n : ℕ) → n ≡ 0 → 0 < n → ⊥
-  never-refused n z p = omega arith
-
   right-falls : (a b : Answer) → RightAnswer u y a → RightAnswer v y b → (MarkedNear a → ⊥) → (MarkedNear b → ⊥) → indexOf b ≤ℤ indexOf a
-  right-falls (Refused n) b r s i j = absurd (never-refused n (r .number ∙ e) (r .case))
-  right-falls (A x) (Refused n) r s i j = absurd (never-refused n (s .number ∙ f) (s .case))
-  right-falls (B b) (Refused n) r s i j = absurd (never-refused n (s .number ∙ f) (s .case))
+  right-falls (Refused n) b r s i j = not-some n (r .number ∙ e) (r .case)
+  right-falls (A x) (Refused n) r s i j = not-some n (s .number ∙ f) (s .case)
+  right-falls (B b) (Refused n) r s i j = not-some n (s .number ∙ f) (s .case)
   right-falls (A x) (A z) r s i j = rw (r .case .1, s .case .1) (index-falls y u v (omega arith))
   right-falls (A x) (B d) r s i j =
       let above : H-at y ≤ inUnits u = r .case .0 in

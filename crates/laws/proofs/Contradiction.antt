@@ -1,5 +1,5 @@
 -- What follows where facts contradict each other: `impossible cc` where two constructors are said to be equal.
-use Prim.Native.Nat.{ℕ}
+use Prim.Native.Nat.{ℕ, _<_}
 use mathlib.Core.Path.{_≡_}
 use mathlib.Core.Bool.{Bool, true, false}
 use native.Mathlib.Omega.{arith}
@@ -9,3 +9,7 @@ impossible e = absurd (omega (arith, e))
 
 pub both-ways : {P : Type 0} {b : Bool} → b ≡ true → b ≡ false → P
 both-ways p q = impossible (cc (p, q))
+
+-- no number is zero and above zero
+pub not-some : {P : Type 0} (n : ℕ) → n ≡ 0 → 0 < n → P
+not-some n z p = absurd (omega arith)
