@@ -18,17 +18,17 @@ use Rattle.logarithm.specs.Log2.{log2Of, fractionOf, mantissa, zerosOf, entryAt
 use Rattle.shown_index.specs.declared.Mark.{Mark}
 use Rattle.shown_index.specs.declared.Mark.the-variants as mark
 use Rattle.shown_index.specs.declared.ByB.{ByB}
-use Rattle.shown_index.specs.Terms.{Q}
+use Rattle.shown_index.specs.Terms.{Q, c}
 use Rattle.shown_index.specs.ChosenIndex.{showsLeast, showsMost}
 use Rattle.shown_index.proofs.Shows.{least-shows, most-shows}
 use Rattle.index.specs.declared.answer.Answer.{Answer}
 use Rattle.index.specs.declared.answer.Answer.the-variants.{Refused, A, B}
 use Rattle.index.specs.Questions.{refusal}
 use Rattle.index.specs.ProcedureA.{roundedA, indexA}
-use Rattle.index.specs.ProcedureB.{SettledAt, NearAt, Marked}
+use Rattle.index.specs.ProcedureB.{AtLeast, AtMost, SettledAt, NearAt, Marked}
 use Rattle.index.specs.Answer.{methodOfMark, methodOf, indexOf, lowerOf, upperOf, RightAnswer}
 use Rattle.forced.specs.ForcedAnswers.{Forced156, ForcedNear125, ForcedAnswers}
-use Rattle.forced.proofs.Fractions.{enclosed, Numbers, lower-most, upper-least, least-bound, most-bound}
+use Rattle.forced.proofs.Fractions.{enclosed, Numbers, lower-most, upper-least, bounds}
 
 -- ---- by A, and refused
 
@@ -110,18 +110,19 @@ far-upper : showsLeast 2472281 15650 ≡ true
 unfolding showsLeast log2Of fractionOf mantissa zerosOf entryAt entryOf timesFactor levelLog levelRest tailOf restOf firstTable secondTable leadingZeros
 far-upper = refl
 
+bounds-156 : (r s p P : ℕ) → AtLeast 22830 5050 r p → AtMost 22830 5050 s P → (1000 * c r ≤ 14034745000) × (14034030000 ≤ 1000 * c s)
+bounds-156 = bounds _ _ _ _ _ _ (omega arith) (omega arith) numbers-156
+
 module _ (k p P : ℕ) where
   only-156 : SettledAt 22830 5050 k p P → k ≡ 156
   only-156 h =
-      let low = least-bound _ _ _ _ _ _ (omega arith) (omega arith) numbers-156 _ p (h .at-least) in
-      let high = most-bound _ _ _ _ _ _ (omega arith) (omega arith) numbers-156 _ P (h .at-most) in
-      omega arith
+      let b = bounds-156 _ _ p P (h .at-least) (h .at-most) in
+      omega (arith, b .0, b .1)
 
   never-near : NearAt 22830 5050 k p P → ⊥
   never-near h =
-      let low = least-bound _ _ _ _ _ _ (omega arith) (omega arith) numbers-156 _ p (h .at-least) in
-      let high = most-bound _ _ _ _ _ _ (omega arith) (omega arith) numbers-156 _ P (h .at-most) in
-      omega arith
+      let b = bounds-156 _ _ p P (h .at-least) (h .at-most) in
+      omega (arith, b .0, b .1)
 
 forced-156 : (p P : ℕ) → SettledAt 22830 5050 156 p P → Forced156 (methodOfMark mark.Settled) (pos 156) p P
 forced-156 p P h =
@@ -167,18 +168,19 @@ numbers-125 =
       index-least = lit≤ tt;
     }
 
+bounds-125 : (r s p P : ℕ) → AtLeast 144936 16776 r p → AtMost 144936 16776 s P → (1000 * c r ≤ 11751749999) × (11751750001 ≤ 1000 * c s)
+bounds-125 = bounds _ _ _ _ _ _ (omega arith) (omega arith) numbers-125
+
 module _ (k p P : ℕ) where
   never-settled : SettledAt 144936 16776 k p P → ⊥
   never-settled h =
-      let low = least-bound _ _ _ _ _ _ (omega arith) (omega arith) numbers-125 _ p (h .at-least) in
-      let high = most-bound _ _ _ _ _ _ (omega arith) (omega arith) numbers-125 _ P (h .at-most) in
-      omega arith
+      let b = bounds-125 _ _ p P (h .at-least) (h .at-most) in
+      omega (arith, b .0, b .1)
 
   only-125 : NearAt 144936 16776 k p P → k ≡ 125
   only-125 h =
-      let low = least-bound _ _ _ _ _ _ (omega arith) (omega arith) numbers-125 _ p (h .at-least) in
-      let high = most-bound _ _ _ _ _ _ (omega arith) (omega arith) numbers-125 _ P (h .at-most) in
-      omega arith
+      let b = bounds-125 _ _ p P (h .at-least) (h .at-most) in
+      omega (arith, b .0, b .1)
 
 forced-125 : (p P : ℕ) → NearAt 144936 16776 125 p P → ForcedNear125 (methodOfMark mark.Near) (pos 125) p P
 forced-125 p P h =

@@ -85,17 +85,21 @@ module _ (u y h p most least : ℕ) (some : 0 < u) (base : 1000 < y) (o : Number
       (powers-le scale (suc p) Q 1 least 10 tenToTen 0 (log2Of least + width) log10 (log2Of tenToTen) scale-positive
       (one-above scale) (o .least-log .above) (ten .below) (enclosed tenToTen tt tt .below) (rw Q-is (omega (arith, o .index-least))))
 
-  pub least-bound : (r p′ : ℕ) → AtLeast u y r p′ → 1000 * c r ≤ most
+  least-bound : (r p′ : ℕ) → AtLeast u y r p′ → 1000 * c r ≤ most
   least-bound r p′ a =
       root Q (omega (arith, Q-is))
       (le-trans (le-of-eq (mul-pow 1000 (c r) Q))
       (le-trans (mul-le-mul-left (1000 ^ Q) (le-trans (a .index) (mul-le-mul-right (10 ^ (7 * Q)) (pow-le-pow-right (omega arith) (lower-most r p′ a)))))
       (le-trans (le-of-eq (thousandfold p)) at-most)))
 
-  pub most-bound : (r P′ : ℕ) → AtMost u y r P′ → least ≤ 1000 * c r
+  most-bound : (r P′ : ℕ) → AtMost u y r P′ → least ≤ 1000 * c r
   most-bound r P′ a =
       root Q (omega (arith, Q-is))
       (le-trans at-least
       (le-trans (le-of-eq (sym (thousandfold (suc p))))
       (le-trans (mul-le-mul-left (1000 ^ Q) (le-trans (mul-le-mul-right (10 ^ (7 * Q)) (pow-le-pow-right (omega arith) (upper-least r P′ a))) (a .index)))
       (le-of-eq (sym (mul-pow 1000 (c r) Q))))))
+
+  -- both at once: what one p shows to be at least r and one P to be at most s
+  pub bounds : (r s p′ P′ : ℕ) → AtLeast u y r p′ → AtMost u y s P′ → (1000 * c r ≤ most) × (least ≤ 1000 * c s)
+  bounds r s p′ P′ a b = (least-bound r p′ a, most-bound s P′ b)
