@@ -31,16 +31,16 @@ pub record ForcedNear125 (method : ℕ) (index : ℤ) (p P : ℕ) : Type 0 where
 pub record ForcedAnswers : Type 0 where
   -- "(73300, 8860): A 92."
   pub by-a : (a : Answer) → RightAnswer 73300 8860 a → a ≡ A (pos 92)
-  -- "(28490, 5000): A 100.": U is H
+  -- "(28490, 5000): A 100." U is H
   pub at-h : (a : Answer) → RightAnswer 28490 5000 a → a ≡ A (pos 100)
-  -- "(7986, 2000): exactly 0.5, A 1. (8018, 2000): −1.5, A −1."
+  -- "(7986, 2000): exactly 0.5, A 1." and "(8018, 2000): −1.5, A −1."
   pub half : (a : Answer) → RightAnswer 7986 2000 a → a ≡ A (pos 1)
   pub negative-half : (a : Answer) → RightAnswer 8018 2000 a → a ≡ A (negsuc 0)
   -- "(1000000000, 2000): A −62,499,500."
   pub thickest : (a : Answer) → RightAnswer 1000000000 2000 a → a ≡ A (negsuc 62499499)
-  -- "(22830, 5050)": B 156
+  -- "22.830 5.050 B 156"
   pub by-b : (a : Answer) → RightAnswer 22830 5050 a → Forced156 (methodOf a) (indexOf a) (lowerOf a) (upperOf a)
   -- (144936, 16776): B~ 125
   pub near : (a : Answer) → RightAnswer 144936 16776 a → ForcedNear125 (methodOf a) (indexOf a) (lowerOf a) (upperOf a)
-  -- "(20000, 1999)": refused 1
+  -- "20.000 1.999 refused 1"
   pub refused : (a : Answer) → RightAnswer 20000 1999 a → a ≡ Refused 1

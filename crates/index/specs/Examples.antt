@@ -33,7 +33,7 @@ pub record StarredExamples : Type 0 where
   pub above-70-exact : 2 * (L-at 100000 - inUnits 6188000) ≡ L-at 100000 - H-at 100000
   pub above-70 : answerOf 6188000 100000 ≡ A (pos 50)
 
--- and those that are refused: "y 1999: 1; 500001: 2; (1000000001, 2000): 3; (2000, 2000): 4", with the pairs beside them that are not
+-- and those that are refused: "y 1999: 1. y 500001: 2. (1000000001, 2000): 3. (2000, 2000): 4.", with the pairs beside them that are not
 pub record RefusedExamples : Type 0 where
   pub refused-1 : refusal 20000 1999 ≡ 1
   pub refused-2 : refusal 900000 500001 ≡ 2

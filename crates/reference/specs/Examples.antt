@@ -1,7 +1,6 @@
 -- Document 01, 'Pairs and sheets to try': the starred examples about L and H, in units of 10^-10 mm²/s, as one statement.
 -- And what else can be held against the papers without a program: the limits, the quadratics at three viscosities, and the rows where the sources
--- differ.
--- proofs/Examples.antt shows all from the definitions by computation.
+-- differ. proofs/Examples.antt shows all from the definitions by computation.
 use Prim.Native.Nat.{_<_}
 use mathlib.Core.Path.{_≡_}
 use Rattle.reference.specs.declared.Asked40.the-variants as at40
@@ -22,7 +21,7 @@ pub record StarredBasis : Type 0 where
   pub l-70001 : L-at 70001 ≡ 49040016128353
   pub below-70 : L-at 70001 < inUnits (rowL lastRowAt)
 
--- Questions 1 to 3 at their limits: "y 1999: 1; 500001: 2; (1000000001, 2000): 3", and the numbers beside them, which are taken
+-- Questions 1 to 3 at their limits: "y 1999: 1. y 500001: 2. (1000000001, 2000): 3.", and the numbers beside them, which are taken
 pub record Limits : Type 0 where
   pub below-least : basisAnswerOf 1999 ≡ Refused 1
   pub least : basisAnswerOf 2000 ≡ Found (basisOf 2000)
