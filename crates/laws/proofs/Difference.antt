@@ -1,12 +1,14 @@
--- Differences of whole numbers, of either sign: what they are, when two are equal, and their order.
+-- Differences of whole numbers, of either sign: what they are, when two are equal, their sums and products, and their order. Each signed number
+-- of a definition is one; what holds of them is then an equation or an order of whole numbers.
 use Prim.Native.Nat.{ℕ, zero, suc, _+_, _*_, _-_, _<_, _≤_}
-use mathlib.Core.Path.{_≡_, refl, sym, _∙_, ap}
+use mathlib.Core.Path.{_≡_, refl, sym, _∙_, ap, ap₂}
 use lib.IntN.{ℤ, pos, negsuc, negℤ, subℕ, _+ℤ_, _-ℤ_, _*ℤ_}
-use lib.Signed.{_≤ℤ_}
+use lib.Signed.{_≤ℤ_, mag}
 use lib.Dec.{le→leb, leb→le}
 use native.Mathlib.Omega.{arith}
-use native.Mathlib.Nat.{le-trans, mul-add}
+use native.Mathlib.Nat.{add-zero, le-trans, mul-add, mul-comm}
 use borrow.Author.Tests.{lt-ltb, le-ltb}
+use Rattle.laws.specs.Bits.{half32}
 use Rattle.laws.proofs.Order.{by-order}
 
 -- a − b where b is at most a, and where it is above
@@ -46,12 +48,40 @@ times-sub n a b =
     ap (λ (z : ℤ). pos n *ℤ z) (sub-pos a b h) ∙ pos-is (n * (a - b))
     ∙ sub-same (n * (a - b)) 0 (n * a) (n * b) (omega (arith, ap (λ (x : ℕ). n * x) e, mul-add n (a - b) b)))
 
+-- (a − b) · n
+pub sub-times : (n a b : ℕ) → subℕ a b *ℤ pos n ≡ subℕ (a * n) (b * n)
+sub-times n a b =
+    by-order a b
+    (λ h. ap (λ (z : ℤ). z *ℤ pos n) (sub-neg a b h) ∙ ap (λ (m : ℕ). negℤ (pos m)) (mul-comm (suc (b - suc a)) n)
+    ∙ sym (ap (λ (z : ℤ). pos n *ℤ z) (sub-neg a b h)))
+    (λ h. ap (λ (z : ℤ). z *ℤ pos n) (sub-pos a b h) ∙ ap pos (mul-comm (a - b) n) ∙ sym (ap (λ (z : ℤ). pos n *ℤ z) (sub-pos a b h)))
+    ∙ times-sub n a b ∙ ap₂ subℕ (mul-comm n a) (mul-comm n b)
+
+-- −(a − b)
+neg-sub : (a b : ℕ) → negℤ (subℕ a b) ≡ subℕ b a
+neg-sub a b =
+    by-order a b
+    (λ h. ap negℤ (sub-neg a b h) ∙ ap pos (omega arith) ∙ sym (sub-pos b a (omega arith)))
+    (λ h. ap negℤ (sub-pos a b h) ∙ neg-is (a - b) ∙ sub-same 0 (a - b) b a (omega arith))
+
+-- (a − b) + (c − d)
+pub add-sub : (a b c d : ℕ) → subℕ a b +ℤ subℕ c d ≡ subℕ (a + c) (b + d)
+add-sub a b c d =
+    by-order a b
+    (λ h. by-order c d
+    (λ k. ap₂ _+ℤ_ (sub-neg a b h) (sub-neg c d k) ∙ ap negsuc (omega arith) ∙ sym (sub-neg (a + c) (b + d) (omega arith)))
+    (λ k. ap₂ _+ℤ_ (sub-neg a b h) (sub-pos c d k) ∙ sub-same (c - d) (suc (b - suc a)) (a + c) (b + d) (omega arith)))
+    (λ h. by-order c d
+    (λ k. ap₂ _+ℤ_ (sub-pos a b h) (sub-neg c d k) ∙ sub-same (a - b) (suc (d - suc c)) (a + c) (b + d) (omega arith))
+    (λ k. ap₂ _+ℤ_ (sub-pos a b h) (sub-pos c d k) ∙ ap pos (omega arith) ∙ sym (sub-pos (a + c) (b + d) (omega arith))))
+
+-- (a − b) − (c − d)
+pub sub-sub : (a b c d : ℕ) → subℕ a b -ℤ subℕ c d ≡ subℕ (a + d) (b + c)
+sub-sub a b c d = ap (λ (z : ℤ). subℕ a b +ℤ z) (neg-sub c d) ∙ add-sub a b d c
+
 -- (a − b) + c
 pub sub-plus : (a b c : ℕ) → subℕ a b +ℤ pos c ≡ subℕ (a + c) b
-sub-plus a b c =
-    by-order a b
-    (λ h. ap (λ (z : ℤ). z +ℤ pos c) (sub-neg a b h) ∙ sub-same c (suc (b - suc a)) (a + c) b (omega arith))
-    (λ h. ap (λ (z : ℤ). z +ℤ pos c) (sub-pos a b h) ∙ pos-is (a - b + c) ∙ sub-same (a - b + c) 0 (a + c) b (omega arith))
+sub-plus a b c = ap (λ (z : ℤ). subℕ a b +ℤ z) (pos-is c) ∙ add-sub a b c 0 ∙ ap (subℕ (a + c)) (add-zero b)
 
 pub pos-le : (a b : ℕ) → a ≤ b → pos a ≤ℤ pos b
 pos-le a b h = record { le = le→leb a b h }
@@ -71,12 +101,22 @@ joins (negsuc a) (negsuc b) (negsuc c) h k = neg-le a c (le-trans (leb→le c b 
 pub order-joins : {a b c : ℤ} → a ≤ℤ b → b ≤ℤ c → a ≤ℤ c
 order-joins {a} {b} {c} h k = joins a b c h k
 
+-- a − b is at most c − d
+pub sub-le : (a b c d : ℕ) → a + d ≤ c + b → subℕ a b ≤ℤ subℕ c d
+sub-le a b c d l =
+    by-order a b
+    (λ h. by-order c d
+    (λ k. rw (sub-neg a b h, sub-neg c d k) (neg-le (b - suc a) (d - suc c) (omega arith)))
+    (λ k. rw (sub-neg a b h, sub-pos c d k) (record { le = tt })))
+    (λ h. rw (sub-pos a b h, sub-pos c d (omega arith)) (pos-le (a - b) (c - d) (omega arith)))
+
 -- a − c is at most a − b where b is at most c
 pub sub-falls : (a b c : ℕ) → b ≤ c → subℕ a c ≤ℤ subℕ a b
-sub-falls a b c h =
+sub-falls a b c h = sub-le a c a b (omega arith)
+
+-- the difference of two numbers that 32 bits hold with sign is one
+pub difference-fits : (a b : ℕ) → a < half32 → b < half32 → mag (subℕ a b) < half32
+difference-fits a b h k =
     by-order a b
-    (λ l. rw (sub-neg a b l, sub-neg a c (omega arith)) (neg-le (c - suc a) (b - suc a) (omega arith)))
-    (λ m. rw (sub-pos a b m)
-    (by-order a c
-    (λ l. rw (sub-neg a c l) (record { le = tt }))
-    (λ n. rw (sub-pos a c n) (pos-le (a - c) (a - b) (omega arith)))))
+    (λ l. rw (sub-neg a b l) (omega arith))
+    (λ l. rw (sub-pos a b l) (omega arith))

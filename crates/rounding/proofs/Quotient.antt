@@ -7,7 +7,7 @@ use lib.IntN.{ℤ, pos, negsuc, subℕ, _+ℤ_}
 use lib.Signed.{_≤ℤ_, mag}
 use native.Mathlib.Nat.{div-lt-iff-lt-mul, div-add-mod', div-div-eq-div-mul, mod-lt, add-mul, mul-left-comm}
 use native.Mathlib.Omega.{arith}
-use Rattle.laws.proofs.Difference.{sub-pos, sub-neg, sub-falls, times-sub, sub-plus, pos-le}
+use Rattle.laws.proofs.Difference.{sub-pos, sub-neg, sub-falls, times-sub, sub-plus, pos-le, difference-fits}
 use Rattle.laws.proofs.Order.{by-order}
 use Rattle.rounding.specs.Nearest.{floorDiv, nearest}
 use Rattle.laws.specs.Bits.{half32}
@@ -39,15 +39,9 @@ nearest-less w x d some =
     (omega (arith, div-add-mod' (2 * x + (d - 1)) (2 * d), add-mul w 1 (2 * d), mul-left-comm w 2 d))
     ∙ ap (subℕ w) (sym (div-div-eq-div-mul (2 * x + (d - 1)) 2 d) ∙ ap (λ (n : ℕ). n / d) (omega arith))
 
--- what is subtracted fits, and so does the difference
+-- what is subtracted fits
 pub subtrahend-fits : (w x d n : ℕ) → QuotientFits w x d → n < x + d → n / d < half32
 subtrahend-fits w x d n f h = div-lt-iff-lt-mul {k = d} {x = n} {y = half32} (omega (arith, f .some)) .1 (omega (arith, f .fits))
-
-pub difference-fits : (a b : ℕ) → a < half32 → b < half32 → mag (subℕ a b) < half32
-difference-fits a b h k =
-    by-order a b
-    (λ l. rw (sub-neg a b l) (omega arith))
-    (λ l. rw (sub-pos a b l) (omega arith))
 
 pub nearest-fits : (w x d : ℕ) → QuotientFits w x d → mag (nearest (subℕ (w * d) x) d) < half32
 nearest-fits w x d f = rw (nearest-less w x d (f .some)) (difference-fits w _ (f .small-w) (subtrahend-fits w x d (x + (d - 1) / 2) f (omega (arith, f .some))))

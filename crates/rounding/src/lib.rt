@@ -1,18 +1,10 @@
 // A quotient to the nearest whole number, the only crate that rounds an index of procedure A.
 ghost use mathlib.Core.Path.{_≡_};
-ghost use Prim.Native.Nat.{_<_, _*_};
+ghost use Prim.Native.Nat.{_*_};
 ghost use lib.IntN.{subℕ};
-ghost use Rattle.laws.specs.Bits.{half32};
 ghost use Rattle.rounding.specs.Nearest.{nearest};
 ghost use Rattle.rounding.specs.Preconditions.{QuotientFits};
-
-// a − b, of either sign.
-fn difference(a: u64, b: u64) -> i32
-    requires { ⌜ (a < half32) × (b < half32) ⌝ }
-    ensures { λ r. ⌜ r ≡ subℕ a b ⌝ }
-{
-    (a as i32) - (b as i32)
-}
+use laws::signed_difference;
 
 // w − x / d to the nearest whole number, exactly a half to the greater: x / d is rounded to the nearest, exactly a half to the smaller, since it is
 // subtracted. So no number below zero is divided. An inner function, for callers that know the result to fit.
@@ -20,5 +12,5 @@ pub fn nearest_less(w: u64, x: u64, d: u64) -> i32
     requires { ⌜ QuotientFits w x d ⌝ }
     ensures { λ r. ⌜ r ≡ nearest (subℕ (w * d) x) d ⌝ }
 {
-    difference(w, (x + (d - 1) / 2) / d)
+    signed_difference(w, (x + (d - 1) / 2) / d)
 }

@@ -6,11 +6,10 @@ use borrow.Author.Needs.{sfits-of, needs}
 use mir.Facts.{toZ-pos, toZ-ofZ}
 use mir.Val.{toZ}
 use mir.Syntax.{w32}
 use Rattle.laws.specs.Bits.{half32}
-use Rattle.laws.proofs.Difference.{pos-less}
-use Rattle.rounding.proofs.Quotient.{difference-fits}
-use Rattle.rounding.proofs.difference.Statement.{statement}
-use Rattle.rounding.proofs.difference.Tie as tie
+use Rattle.laws.proofs.Difference.{pos-less, difference-fits}
+use Rattle.laws.proofs.signed_difference.Statement.{statement}
+use Rattle.laws.proofs.signed_difference.Tie as tie
 
 minus : (a b : ℕ) → a < half32 → b < half32 → toZ w32 a -ℤ toZ w32 b ≡ subℕ a b
 minus a b h k = ap₂ (λ (x y : ℤ). x -ℤ y) (toZ-pos w32 {n = a} h) (toZ-pos w32 {n = b} k) ∙ pos-less a b
@@ -28,5 +27,5 @@ returns : tie.Need-returns
 returns c =
     rw (minus (c .args .a) (c .args .b) (c .pre .0) (c .pre .1)) (toZ-ofZ {w = w32} (sfits-of (difference-fits _ _ (c .pre .0) (c .pre .1))))
 
-pub difference-spec : {M : Type 1} → statement M
-difference-spec = tie.close (tie.spec cast-result cast-result-2 sub-result returns)
+pub signed-difference-spec : {M : Type 1} → statement M
+signed-difference-spec = tie.close (tie.spec cast-result cast-result-2 sub-result returns)
