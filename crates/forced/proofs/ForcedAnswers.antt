@@ -18,7 +18,8 @@ use Rattle.logarithm.specs.Log2.{log2Of, fractionOf, mantissa, zerosOf, entryAt
 use Rattle.shown_index.specs.declared.Mark.{Mark}
 use Rattle.shown_index.specs.declared.Mark.the-variants as mark
 use Rattle.shown_index.specs.declared.ByB.{ByB}
-use Rattle.shown_index.specs.Terms.{Q, c}
+use Rattle.logarithm.specs.Fractions.{Q}
+use Rattle.shown_index.specs.Terms.{c}
 use Rattle.shown_index.specs.ChosenIndex.{showsLeast, showsMost}
 use Rattle.shown_index.proofs.Shows.{least-shows, most-shows}
 use Rattle.index.specs.declared.answer.Answer.{Answer}
@@ -28,7 +29,8 @@ use Rattle.index.specs.ProcedureA.{roundedA, indexA}
 use Rattle.index.specs.ProcedureB.{AtLeast, AtMost, SettledAt, NearAt, Marked}
 use Rattle.index.specs.Answer.{methodOfMark, methodOf, indexOf, lowerOf, upperOf, RightAnswer}
 use Rattle.forced.specs.ForcedAnswers.{Forced156, ForcedNear125, ForcedAnswers}
-use Rattle.forced.proofs.Fractions.{enclosed, Numbers, lower-most, upper-least, bounds}
+use Rattle.logarithm.proofs.Log2.{enclosed}
+use Rattle.forced.proofs.Fractions.{Numbers, lower-most, upper-least, bounds}
 
 -- ---- by A, and refused
 

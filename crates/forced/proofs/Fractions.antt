@@ -1,25 +1,21 @@
 -- An oil below H whose Q·N lies between p and p + 1: a numerator that is shown to be at most Q·N is at most p, and one that is shown to be at least Q·N is at
 -- least p + 1. So the numbers that p and p + 1 stand for bound what any p and P show of the index.
 use Prim.Native.Nat.{ℕ, suc, _+_, _*_, _-_, _^_, _≤_, _<_}
-use mathlib.Core.Path.{_≡_, sym, _∙_, ap, subst}
+use mathlib.Core.Path.{_≡_, sym, _∙_, ap}
 use native.Mathlib.Omega.{arith}
 use native.Mathlib.Nat.{le-trans, le-of-eq, mul-left-comm, mul-le-mul-left, mul-le-mul-right, pow-le-pow-right, pow-lt-pow-left}
-use lib.Dec.{T, ltb, leb, lit<, lit≤}
 use Rattle.laws.proofs.Powers.{mul-pow, pow-mul, root, exponents-apart}
 use Rattle.reference.specs.Viscosity.{inUnits}
 use Rattle.reference.specs.Basis.{H-at}
-use Rattle.logarithm.specs.Scale.{scale, width, unit, log10, log1000}
+use Rattle.logarithm.specs.Scale.{scale, width, log10, log1000}
 use Rattle.logarithm.specs.Log2.{log2Of, Enclosed}
-use Rattle.logarithm.proofs.Log2.{log2-enclosed}
-use Rattle.logarithm.proofs.FromLogarithms.{powers-le, one-above, one-below, scale-positive}
-use Rattle.logarithm.proofs.Constants.{ten, thousand}
-use Rattle.shown_index.specs.Terms.{Q, Q-is, Q-number, c}
-use Rattle.shown_index.proofs.Shows.{no-factor}
+use Rattle.logarithm.proofs.Log2.{enclosed}
+use Rattle.logarithm.proofs.FromLogarithms.{powers-le, scale-positive}
+use Rattle.logarithm.proofs.Fractions.{power-below, power-above}
+use Rattle.logarithm.proofs.Constants.{thousand}
+use Rattle.logarithm.specs.Fractions.{Q, Q-is, Q-number}
+use Rattle.shown_index.specs.Terms.{c}
 use Rattle.index.specs.ProcedureB.{AtLeast, AtMost}
-
--- the logarithm of a number that can be computed with
-pub enclosed : (x : ℕ) → T (leb 1 x) → T (ltb x (2 * unit)) → Enclosed x (log2Of x)
-enclosed x a b = log2-enclosed x (record { least = lit≤ a; most = lit< b })
 
 -- c(r) is compared in thousandths, so that 10^7 becomes this
 abbrev pub tenToTen : ℕ
@@ -75,15 +71,13 @@ module _ (u y h p most least : ℕ) (some : 0 < u) (base : 1000 < y) (o : Number
 
   at-most : 10 ^ p * tenToTen ^ Q ≤ most ^ Q
   at-most =
-      subst (λ (k : ℕ). 10 ^ p * tenToTen ^ Q ≤ k) (no-factor p (most ^ Q))
-      (powers-le scale p Q 10 tenToTen 1 most (log10 + 1) (log2Of tenToTen + width) 0 (log2Of most) scale-positive
-      (ten .above) (enclosed tenToTen tt tt .above) (one-below scale) (o .most-log .below) (rw Q-is (omega (arith, o .index-most))))
+      power-below p Q most tenToTen (log2Of most) (log2Of tenToTen + width) (o .most-log .below) (enclosed tenToTen tt tt .above)
+      (rw Q-is (o .index-most))
 
   at-least : least ^ Q ≤ 10 ^ suc p * tenToTen ^ Q
   at-least =
-      subst (λ (k : ℕ). k ≤ 10 ^ suc p * tenToTen ^ Q) (no-factor (suc p) (least ^ Q))
-      (powers-le scale (suc p) Q 1 least 10 tenToTen 0 (log2Of least + width) log10 (log2Of tenToTen) scale-positive
-      (one-above scale) (o .least-log .above) (ten .below) (enclosed tenToTen tt tt .below) (rw Q-is (omega (arith, o .index-least))))
+      power-above (suc p) Q least tenToTen (log2Of least + width) (log2Of tenToTen) (o .least-log .above) (enclosed tenToTen tt tt .below)
+      (rw Q-is (o .index-least))
 
   least-bound : (r p′ : ℕ) → AtLeast u y r p′ → 1000 * c r ≤ most
   least-bound r p′ a =

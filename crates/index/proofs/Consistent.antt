@@ -7,7 +7,8 @@ use Rattle.laws.proofs.Order.{by-order}
 use Rattle.laws.proofs.Powers.{ring, root, exponents-in-order, exponents-apart}
 use Rattle.reference.specs.Viscosity.{inUnits}
 use Rattle.reference.specs.Basis.{H-at}
-use Rattle.shown_index.specs.Terms.{Q, Q-is, c}
+use Rattle.logarithm.specs.Fractions.{Q, Q-is}
+use Rattle.shown_index.specs.Terms.{c}
 use Rattle.index.specs.ProcedureB.{AtLeast, AtMost}
 use Rattle.index.specs.Consistent.{Consistent}
 

@@ -12,7 +12,8 @@ use Rattle.reference.specs.Basis.{H-at}
 use Rattle.shown_index.specs.declared.Mark.{Mark}
 use Rattle.shown_index.specs.declared.Mark.the-variants as mark
 use Rattle.shown_index.specs.declared.ByB.{ByB}
-use Rattle.shown_index.specs.Terms.{Q, leastIndex}
+use Rattle.logarithm.specs.Fractions.{Q}
+use Rattle.shown_index.specs.Terms.{leastIndex}
 use Rattle.index.specs.declared.answer.Answer.{Answer}
 use Rattle.index.specs.declared.answer.Answer.the-variants.{Refused, A, B}
 use Rattle.index.specs.ProcedureB.{AtLeast, AtMost, NearAt, Marked}

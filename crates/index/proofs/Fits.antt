@@ -8,7 +8,8 @@ use lib.Signed.{mag}
 use Rattle.laws.specs.Bits.{half32, span32}
 use Rattle.laws.proofs.Powers.{pow-mul, exponents-le}
 use Rattle.shown_index.specs.declared.ByB.{ByB}
-use Rattle.shown_index.specs.Terms.{Q, Q-is, mostIndex}
+use Rattle.logarithm.specs.Fractions.{Q, Q-is}
+use Rattle.shown_index.specs.Terms.{mostIndex}
 use Rattle.index.specs.declared.answer.Answer.{Answer}
 use Rattle.index.specs.declared.answer.Answer.the-variants.{Refused, A, B}
 use Rattle.index.specs.ProcedureB.{AtMost}

@@ -10,7 +10,7 @@ use Rattle.laws.proofs.Powers.{ring}
 use Rattle.logarithm.specs.Scale.{scale, scaleNumber, width, log1000}
 use Rattle.logarithm.specs.Log2.{Enclosed}
 use Rattle.logarithm.proofs.FromLogarithms.{powers-le, scale-positive}
-use Rattle.shown_index.specs.Terms.{Q, Q-is, Q-number}
+use Rattle.logarithm.specs.Fractions.{Q, Q-is, Q-number}
 use Rattle.shown_index.specs.ChosenIndex.{mostLower}
 use Rattle.index.specs.Preconditions.{InBounds}
 use Rattle.index.specs.ChosenFractions.{lowerFrom, upperFrom}

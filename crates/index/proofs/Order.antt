@@ -21,7 +21,8 @@ use Rattle.index.specs.Preconditions.{Passes}
 use Rattle.index.specs.ProcedureB.{SettledAt, Marked}
 use Rattle.index.specs.Answer.{methodOfMark, indexOf, RightAnswer}
 use Rattle.index.specs.Order.{MarkedNear, InOrder}
-use Rattle.shown_index.specs.Terms.{Q-number, leastIndex}
+use Rattle.logarithm.specs.Fractions.{Q-number}
+use Rattle.shown_index.specs.Terms.{leastIndex}
 use Rattle.index.specs.ChosenFractions.{lowerFrom, upperFrom, lowerOfPair, upperOfPair, byB}
 use Rattle.index.specs.ChosenAnswer.{answerOf}
 use Rattle.laws.proofs.Difference.{pos-le, order-joins}

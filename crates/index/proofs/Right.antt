@@ -6,7 +6,7 @@ use Rattle.reference.specs.Basis.{H-at}
 use Rattle.logarithm.specs.Log2.{log2Of}
 use Rattle.shown_index.specs.declared.Mark.{Mark}
 use Rattle.shown_index.specs.declared.Mark.the-variants as mark
-use Rattle.shown_index.specs.Terms.{Q}
+use Rattle.logarithm.specs.Fractions.{Q}
 use Rattle.shown_index.specs.RightIndex.{IndexShown}
 use Rattle.shown_index.specs.ChosenIndex.{chosenIndex}
 use Rattle.shown_index.proofs.Marks.{right-index, numerators-kept}

@@ -9,7 +9,7 @@ use Rattle.reference.specs.Basis.{H-at}
 use Rattle.logarithm.specs.Scale.{width, log1000}
 use Rattle.logarithm.specs.Log2.{log2Of}
 use Rattle.shown_index.specs.declared.ByB.{ByB}
-use Rattle.shown_index.specs.Terms.{Q-number}
+use Rattle.logarithm.specs.Fractions.{Q-number}
 use Rattle.shown_index.specs.ChosenIndex.{mostLower, chosenIndex}
 
 -- p, from the logarithms of y, U and H: N rounded down, with every logarithm on the side that makes it smaller

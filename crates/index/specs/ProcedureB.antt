@@ -3,7 +3,8 @@
 use Prim.Native.Nat.{ℕ, _+_, _*_, _-_, _^_, _≤_}
 use Rattle.reference.specs.Viscosity.{inUnits}
 use Rattle.reference.specs.Basis.{H-at}
-use Rattle.shown_index.specs.Terms.{Q, c}
+use Rattle.logarithm.specs.Fractions.{Q}
+use Rattle.shown_index.specs.Terms.{c}
 use Rattle.shown_index.specs.declared.Mark.{Mark}
 use Rattle.shown_index.specs.declared.Mark.the-variants as mark
 

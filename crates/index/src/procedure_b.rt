@@ -10,9 +10,9 @@ ghost use Rattle.index.specs.ChosenFractions.{lowerFrom, upperFrom, byB,
 ghost use Rattle.index.specs.Preconditions.{InBounds, OilBelowH};
 use logarithm::LOG_1000;
 use logarithm::LOG_TABLE_SIZE;
+use logarithm::Q;
 use logarithm::WIDTH;
 use shown_index::ByB;
-use shown_index::Q;
 use shown_index::THRESHOLDS_TABLE_SIZE;
 
 // An oil below H: its two viscosities in thousandths of a mm²/s, and H in units of 10^-10 mm²/s.

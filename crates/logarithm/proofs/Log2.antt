@@ -5,6 +5,7 @@ use Prim.Native.Nat.{ℕ, zero, suc, _+_, _*_, _-_, _/_, _%_, _^_, _≤_, _<_}
 use native.Mathlib.Nat.{mul-assoc, mul-le-mul-left, mul-le-mul-right, le-of-mul-le-mul-right, mul-lt-mul-of-pos-right, add-mul, mod-eq-of-lt, pow-suc, pow-lt-pow-left}
 use native.Mathlib.Omega.{arith}
 use lib.Pow.{pow-add, pow-pos, pow-mono}
+use lib.Dec.{T, ltb, leb, lit<, lit≤}
 use lib.Count.{leadingZeros, leading-length}
 use Rattle.laws.proofs.Order.{by-order}
 use Rattle.laws.proofs.Powers.{mul-pow, pow-mul}
@@ -150,6 +151,10 @@ log2-enclosed x r =
     shift-back x (zerosOf x - mantissaZeros) (oneZeros - zerosOf x) (omega (arith, n .few, n .many)) (fractionOf (mantissa x))
     (fraction-law (mantissa x) (n .least) (n .most)) in
     record { value = refl; below = h .0; above = h .1; small = below-bound x (log2Of x) (r .most) (h .0) }
+
+-- the logarithm of a number that can be computed with
+pub enclosed : (x : ℕ) → T (leb 1 x) → T (ltb x (2 * unit)) → Enclosed x (log2Of x)
+enclosed x a b = log2-enclosed x (record { least = lit≤ a; most = lit< b })
 
 -- ---- for the proofs of the code
 

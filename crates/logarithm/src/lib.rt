@@ -75,6 +75,9 @@ pub const LOG_1000: u64 = 684_843_481_305;
 
 pub const LOG_10_7: u64 = 1_597_968_123_046;
 
+// Q = 2^24, the denominator of the fractions that crates above enclose logarithms by.
+pub const Q: u64 = 16_777_216;
+
 // What a level leaves of a mantissa, and the logarithm of the factor that it took out.
 struct Reduced {
     mantissa: u64,

@@ -8,7 +8,8 @@ use Rattle.laws.proofs.Order.{by-order}
 use Rattle.shown_index.specs.declared.Mark.the-variants as mark
 use Rattle.shown_index.specs.declared.ByB.{ByB}
 use Rattle.shown_index.specs.Preconditions.{leastR}
-use Rattle.shown_index.specs.Terms.{Q, c, mostIndex}
+use Rattle.logarithm.specs.Fractions.{Q}
+use Rattle.shown_index.specs.Terms.{c, mostIndex}
 use Rattle.shown_index.specs.RightIndex.{IndexBetween, RightIndex}
 use Rattle.shown_index.specs.ChosenIndex.{mostLower, showsLeast, showsMost, wholeOf, made, markedOf, chosenIndex}
 use Rattle.shown_index.proofs.Shows.{least-shows, most-shows, beside-least, beside-most, most-easier}

@@ -1,23 +1,25 @@
 -- The two tests on logarithms: what they say as inequalities, how they follow each other, what they show by whole powers, and what trying k says by
 -- them.
 use Prim.Native.Nat.{ℕ, _+_, _*_, _-_, _^_, _≤_, _<_}
-use mathlib.Core.Path.{_≡_, sym, _∙_, ap, subst₂}
+use mathlib.Core.Path.{_≡_, sym, ap, subst}
 use mathlib.Core.Bool.{true, false}
 use mathlib.Core.Logic.{⊎-elim}
 use native.Mathlib.Omega.{arith}
-use native.Mathlib.Nat.{one-mul, eq-or-lt-of-le}
+use native.Mathlib.Nat.{eq-or-lt-of-le}
 use lib.Dec.{leb}
 use borrow.Author.Tests.{leb-true, leb-false, le-leb, lt-leb}
-use Rattle.laws.proofs.Powers.{one-pow, pow-one, pow-mul}
+use Rattle.laws.proofs.Powers.{pow-one, pow-mul}
 use Rattle.logarithm.specs.Scale.{scale, scaleNumber, width, log10, log10000000}
 use Rattle.logarithm.specs.Log2.{log2Of}
 use Rattle.logarithm.proofs.Log2.{log2-enclosed}
-use Rattle.logarithm.proofs.FromLogarithms.{powers-le, logs-le, one-above, one-below, scale-positive}
+use Rattle.logarithm.proofs.FromLogarithms.{logs-le, one-below}
+use Rattle.logarithm.proofs.Fractions.{power-below, power-above}
 use Rattle.shown_index.specs.declared.search.Trial.the-variants as trial
-use Rattle.shown_index.specs.Terms.{Q, Q-is, c, Q-number, leastIndex, mostIndex}
+use Rattle.logarithm.specs.Fractions.{Q, Q-is, Q-number}
+use Rattle.shown_index.specs.Terms.{c, leastIndex, mostIndex}
 use Rattle.shown_index.specs.Preconditions.{leastR, mostR, LogOfC}
 use Rattle.shown_index.specs.ChosenIndex.{mostLower, showsLeast, showsMost, trialOf}
-use Rattle.logarithm.proofs.Constants.{ten, ten-million, one-two-eight-above}
+use Rattle.logarithm.proofs.Constants.{ten-million, one-two-eight-above}
 use Rattle.shown_index.proofs.Growth.{apart, c-range, c-apart}
 
 -- ---- the logarithm of c, where the code looks at it
@@ -113,25 +115,22 @@ most-easier P R r l e = true-most R r (omega (arith, most-true P r e))
 
 -- ---- what they show
 
-pub no-factor : (p x : ℕ) → 1 ^ p * x ≡ x
-no-factor p x = ap (λ (k : ℕ). k * x) (one-pow p) ∙ one-mul x
-
 seven : 10000000 ^ Q ≡ 10 ^ (7 * Q)
 seven = sym (pow-mul 10 7 Q)
 
 pub least-shows : (p r : ℕ) → leastR ≤ r → r ≤ mostR → showsLeast p r ≡ true → c r ^ Q ≤ 10 ^ p * 10 ^ (7 * Q)
 least-shows p r l h e =
     let t = least-true p r e in
-    subst₂ _≤_ (no-factor p (c r ^ Q)) (ap (λ (k : ℕ). 10 ^ p * k) seven)
-    (powers-le scale p Q 1 (c r) 10 10000000 0 (log2Of (c r) + width) log10 log10000000 scale-positive (one-above scale)
-    (log2-enclosed (c r) (c-range r l h) .above) (ten .below) (ten-million .below) (rw Q-is (omega arith)))
+    subst (λ (k : ℕ). c r ^ Q ≤ 10 ^ p * k) seven
+    (power-above p Q (c r) 10000000 (log2Of (c r) + width) log10000000 (log2-enclosed (c r) (c-range r l h) .above) (ten-million .below)
+    (rw Q-is (omega arith)))
 
 pub most-shows : (P r : ℕ) → leastR ≤ r → r ≤ mostR → showsMost P r ≡ true → 10 ^ P * 10 ^ (7 * Q) ≤ c r ^ Q
 most-shows P r l h e =
     let t = most-true P r e in
-    subst₂ _≤_ (ap (λ (k : ℕ). 10 ^ P * k) seven) (no-factor P (c r ^ Q))
-    (powers-le scale P Q 10 10000000 1 (c r) (log10 + 1) (log10000000 + 1) 0 (log2Of (c r)) scale-positive (ten .above)
-    (ten-million .above) (one-below scale) (log2-enclosed (c r) (c-range r l h) .below) (rw Q-is (omega arith)))
+    subst (λ (k : ℕ). 10 ^ P * k ≤ c r ^ Q) seven
+    (power-below P Q (c r) 10000000 (log2Of (c r)) (log10000000 + 1) (log2-enclosed (c r) (c-range r l h) .below) (ten-million .above)
+    (rw Q-is (omega arith)))
 
 -- ---- beside a half: where p does not show at least r + 1 and P does not show at most r + 1, p shows at least r and P at most r + 2
 

@@ -11,7 +11,8 @@ use Rattle.shown_index.specs.declared.Mark.the-variants as mark
 use Rattle.shown_index.specs.declared.search.Trial.{Trial}
 use Rattle.shown_index.specs.declared.search.Trial.the-variants as trial
 use Rattle.shown_index.specs.declared.ByB.{ByB}
-use Rattle.shown_index.specs.Terms.{Q-number, c, leastIndex, mostIndex}
+use Rattle.logarithm.specs.Fractions.{Q-number}
+use Rattle.shown_index.specs.Terms.{c, leastIndex, mostIndex}
 
 -- the greatest p, 11/6 of Q, since N is at most 11/6 for every oil below H; and the greatest P, two more
 abbrev pub mostLower : ℕ

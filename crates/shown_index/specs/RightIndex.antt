@@ -4,7 +4,8 @@ use Prim.Native.Nat.{ℕ, _+_, _*_, _-_, _^_, _≤_}
 use Rattle.shown_index.specs.declared.Mark.{Mark}
 use Rattle.shown_index.specs.declared.Mark.the-variants as mark
 use Rattle.shown_index.specs.declared.ByB.{ByB}
-use Rattle.shown_index.specs.Terms.{Q, c, leastIndex, mostIndex}
+use Rattle.logarithm.specs.Fractions.{Q}
+use Rattle.shown_index.specs.Terms.{c, leastIndex, mostIndex}
 
 -- "at least r" by p and "at most s" by P, as far as they speak of the index
 pub record IndexBetween (r s p P : ℕ) : Type 0 where

@@ -5,14 +5,15 @@ ghost use lib.Dec.{leb};
 ghost use Rattle.logarithm.specs.Scale.{width, log10, log10000000};
 ghost use Rattle.logarithm.specs.Log2.{log2Of};
 ghost use Rattle.logarithm.specs.Preconditions.{LentLogarithms};
-ghost use Rattle.shown_index.specs.Terms.{Q-number, c, leastIndex, mostIndex};
+ghost use Rattle.logarithm.specs.Fractions.{Q-number};
+ghost use Rattle.shown_index.specs.Terms.{c, leastIndex, mostIndex};
 ghost use Rattle.shown_index.specs.ChosenIndex.{mostLower, mostUpper, showsLeast};
 ghost use Rattle.shown_index.specs.Preconditions.{LogOfC, leastR, mostR};
 use crate::LEAST_INDEX;
-use crate::Q;
 use logarithm::LOG_10;
 use logarithm::LOG_10_7;
 use logarithm::LOG_TABLE_SIZE;
+use logarithm::Q;
 use logarithm::WIDTH;
 
 // c at an index of 100, which is 10^7, and by how much c grows from one hundredth of an index to the next.

@@ -1,12 +1,13 @@
 // Guesses of k from p by polynomials, which nothing leans on. tools/guesses computes the coefficients.
 ghost use Prim.Native.Nat.{_<_, _≤_, _+_};
-ghost use Rattle.shown_index.specs.Terms.{Q-number, leastIndex, mostIndex};
+ghost use Rattle.logarithm.specs.Fractions.{Q-number};
+ghost use Rattle.shown_index.specs.Terms.{leastIndex, mostIndex};
 ghost use Rattle.shown_index.specs.ChosenIndex.{mostLower};
 use crate::LEAST_INDEX;
 use crate::MOST_INDEX;
-use crate::Q;
 use crate::compare::C_AT_100;
 use crate::compare::C_PER_HUNDREDTH;
+use logarithm::Q;
 
 // One multiplication and addition of the polynomials below: a + v · f, f in units of 1 / Q. a is below 2^33 and v below 2^34, so that the
 // product fits 64 bits.

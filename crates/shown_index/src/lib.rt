@@ -21,9 +21,6 @@ use logarithm::LOG_TABLE_SIZE;
 pub use thresholds::THRESHOLDS_TABLE_SIZE;
 pub use thresholds::thresholds_table;
 
-// Q, the denominator of the two fractions.
-pub const Q: u64 = 16_777_216;
-
 // Between which numbers an index by procedure B lies.
 const LEAST_INDEX: u64 = 100;
 

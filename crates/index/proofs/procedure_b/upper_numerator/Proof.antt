@@ -5,7 +5,7 @@ use borrow.Author.Tests.{le-leb, lt-leb}
 use borrow.Author.Needs.{needs}
 use Rattle.logarithm.specs.Scale.{scaleNumber, log1000}
 use Rattle.index.proofs.Numerators.{lower-small}
-use Rattle.shown_index.specs.Terms.{Q-number}
+use Rattle.logarithm.specs.Fractions.{Q-number}
 use Rattle.index.specs.ChosenFractions.{upperFrom}
 use Rattle.index.proofs.procedure_b.upper_numerator.Statement.{statement}
 use Rattle.index.proofs.procedure_b.upper_numerator.Tie as tie

@@ -4,7 +4,7 @@ use native.Mathlib.Omega.{arith}
 use borrow.Author.Needs.{needs}
 use Rattle.laws.proofs.Order.{leb-same}
 use Rattle.logarithm.specs.Scale.{width, log10, log10000000}
-use Rattle.shown_index.specs.Terms.{Q-number}
+use Rattle.logarithm.specs.Fractions.{Q-number}
 use Rattle.shown_index.proofs.compare.shows_least.Statement.{statement}
 use Rattle.shown_index.proofs.compare.shows_least.Tie as tie
 

@@ -3,7 +3,7 @@ use Prim.Native.Nat.{_+_, _*_, _-_}
 use native.Mathlib.Omega.{arith}
 use borrow.Author.Needs.{needs}
 use Rattle.laws.proofs.Order.{leb-same}
-use Rattle.shown_index.specs.Terms.{Q-number}
+use Rattle.logarithm.specs.Fractions.{Q-number}
 use Rattle.logarithm.specs.Scale.{log10, log10000000}
 use Rattle.shown_index.proofs.compare.shows_most.Statement.{statement}
 use Rattle.shown_index.proofs.compare.shows_most.Tie as tie

@@ -2,7 +2,7 @@
 use Prim.Native.Nat.{_*_, _≤_}
 use native.Mathlib.Nat.{mul-le-mul-left}
 use native.Mathlib.Omega.{arith}
-use Rattle.shown_index.specs.Terms.{Q-number}
+use Rattle.logarithm.specs.Fractions.{Q-number}
 use Rattle.shown_index.proofs.guess.multiply_add.Statement.{statement}
 use Rattle.shown_index.proofs.guess.multiply_add.Tie as tie
 
