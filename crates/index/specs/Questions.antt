@@ -1,15 +1,11 @@
--- Document 01, 'Questions to a pair': u at 40 °C and y at 100 °C, in thousandths of a mm²/s.
+-- Document 01, 'Questions to a pair': u at 40 °C and y at 100 °C, in thousandths of a mm²/s. "Asked in this order; the first no gives its number."
 use Prim.Native.Nat.{ℕ}
-use mathlib.Core.Bool.{Bool, true, false, cond}
+use mathlib.Core.Bool.{cond}
 use lib.Dec.{ltb, leb, eqb}
+use Rattle.laws.specs.Questions.{ask}
 use Rattle.reference.specs.Viscosity.{least100, greatest100, greatest40}
 use Rattle.index.specs.declared.questions.Asked.{Asked}
 use Rattle.index.specs.declared.questions.Asked.the-variants.{Refused, Passed}
-
--- a question and its number, then what comes after it: "Asked in this order; the first no gives its number."
-abbrev pub ask : Bool → ℕ → ℕ → ℕ
-ask true number next = next
-ask false number next = number
 
 -- the number of the first question that is answered no; 0 where all are answered yes
 abbrev pub refusal : ℕ → ℕ → ℕ

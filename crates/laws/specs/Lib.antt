@@ -1,2 +1,3 @@
--- The numbers that several crates' definitions name.
+-- What several crates' definitions name.
 pub mod Bits
+pub mod Questions

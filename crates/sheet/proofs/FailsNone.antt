@@ -10,7 +10,7 @@ use lib.ListN.{length}
 use lib.Dec.{leb, eqb}
 use Rattle.laws.proofs.Order.{by-order}
 use Rattle.laws.proofs.Contradiction.{impossible}
-use Rattle.index.specs.Questions.{ask}
+use Rattle.laws.specs.Questions.{ask}
 use Rattle.sheet.specs.Sheet.{headerSize, mostPairs, countOf, pairsOf, resultsOf, totalOf, pairsEnd, resultsEnd, standsWithin, shareNoByte, sheetRefusal}
 use Rattle.sheet.specs.Preconditions.{BlocksWithin}
 use Rattle.sheet.proofs.QuestionOrder.{pairsWithin, resultsWithin, blocksApart}

@@ -5,7 +5,7 @@ use mathlib.Core.List.{List, [], _++_}
 use lib.Dec.{leb, eqb}
 use lib.ListN.{length, take, drop}
 use Rattle.index.specs.declared.answer.Answer.{Answer}
-use Rattle.index.specs.Questions.{ask}
+use Rattle.laws.specs.Questions.{ask}
 use Rattle.index.specs.ChosenAnswer.{answerOf}
 use Rattle.answer_record.specs.Bytes.{numberAt}
 use Rattle.answer_record.specs.Record.{resultSize, recordOf}

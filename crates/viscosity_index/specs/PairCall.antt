@@ -6,7 +6,7 @@ use mathlib.Core.Bool.{Bool, cond}
 use mathlib.Core.List.{List, []}
 use lib.Dec.{eqb}
 use lib.ListN.{length}
-use Rattle.index.specs.Questions.{ask}
+use Rattle.laws.specs.Questions.{ask}
 use Rattle.index.specs.Answer.{numberOf}
 use Rattle.index.specs.ChosenAnswer.{answerOf}
 use Rattle.answer_record.specs.Record.{resultSize, recordOf, RecordOfPair}

@@ -1,0 +1,7 @@
+-- The laws of the constant, callees first.
+pub mod QuestionOrder
+pub mod Asked
+pub mod Cases
+pub mod Enclosure
+pub mod Near
+pub mod Right
