@@ -15,6 +15,11 @@ use Rattle.gravity_constant.specs.declared.answer.ConstantAnswer.the-var
 use Rattle.gravity_constant.specs.Questions.{refusal}
 use Rattle.gravity_constant.specs.Formula.{argument, numerator, divisor}
 
+-- the number of the question that refused, 0 where a constant is answered
+abbrev pub numberOf : ConstantAnswer → ℕ
+numberOf (Refused number) = number
+numberOf (Found c) = 0
+
 -- two numerators over Q that serve for v: they enclose the logarithm of x thousandths, x / 1000 in mm²/s, by whole powers, and are at most 64 apart
 pub record Encloses (t : Temperature) (v : ℕ) (lower upper : ℤ) : Type 0 where
   pub below : AtOrBelowLog (argument t v) 1000 lower

@@ -1,9 +1,13 @@
-// What C calls: the pair and the sheet operation on numbers and bytes. The header is include/viscosity_index.h.
+// What C calls: the pair and the sheet operation on numbers and bytes, and the viscosity-gravity constant on numbers. The header is
+// include/viscosity_index.h.
 ghost use mathlib.Core.Path.{_≡_};
+ghost use Rattle.gravity_constant.specs.declared.questions.Temperature.the-variants.{At40, At100};
+ghost use Rattle.constant_row.specs.ConstantCall.{rowNumber, rowAfter, ConstantCall};
 ghost use Rattle.sheet.specs.Sheet.{sheetRefusal, sheetAfter, sheetNumberOf};
 ghost use Rattle.sheet.specs.Demand3.{Demand3};
 ghost use Rattle.viscosity_index.specs.PairCall.{pairNumber, recordAfter, PairCall};
 use answer_record::layout::RESULT_SIZE;
+use gravity_constant::Temperature;
 use index::answer::number_of;
 use sheet::SheetAnswer;
 
@@ -44,4 +48,25 @@ pub extern "C" fn vi_sheet(sheet: &mut [u8]) -> u32
 {
     let answer = sheet::work_sheet(sheet);
     number_of_sheet(answer)
+}
+
+// The viscosity-gravity constant from the viscosity at 40 °C, as a row of three numbers. A row of another length is left as it is, and 5 is answered; a
+// refusal leaves it as it is too.
+#[no_mangle]
+pub extern "C" fn vi_constant_40(viscosity: u32, density: u32, row: &mut [i32]) -> u32
+    ensures number { λ r. ⌜ r ≡ rowNumber (now (row .entry)) At40 viscosity density ⌝ }
+    ensures numbers { λ _. ⌜ now (row .exit) ≡ rowAfter (now (row .entry)) At40 viscosity density ⌝ }
+    ensures right { λ r. ⌜ ConstantCall At40 viscosity density (now (row .entry)) r (now (row .exit)) ⌝ }
+{
+    constant_row::fill_row(Temperature::At40, viscosity, density, row)
+}
+
+// The same from the viscosity at 100 °C.
+#[no_mangle]
+pub extern "C" fn vi_constant_100(viscosity: u32, density: u32, row: &mut [i32]) -> u32
+    ensures number { λ r. ⌜ r ≡ rowNumber (now (row .entry)) At100 viscosity density ⌝ }
+    ensures numbers { λ _. ⌜ now (row .exit) ≡ rowAfter (now (row .entry)) At100 viscosity density ⌝ }
+    ensures right { λ r. ⌜ ConstantCall At100 viscosity density (now (row .entry)) r (now (row .exit)) ⌝ }
+{
+    constant_row::fill_row(Temperature::At100, viscosity, density, row)
 }

@@ -1,0 +1,2 @@
+-- The laws of the row.
+pub mod Calls

@@ -1,0 +1,2 @@
+-- The definitions that the contracts of constant_row cite.
+pub mod ConstantCall
