@@ -5,3 +5,5 @@ pub mod Cases
 pub mod Enclosure
 pub mod Near
 pub mod Right
+pub mod AnyFractions
+pub mod Forced

@@ -26,10 +26,10 @@ record Rounded (K N D : ℕ) : Type 0 where
   pub most : 100000 * N ≤ 100 * (K * D) + 50 * D
 
 rounded : (N D : ℕ) → 0 < D → Rounded (nearestThousandth N D) N D
-rounded N D p = go (nearestThousandth N D) (div-mul-le-self (2000 * N + D) (2 * D)) (lt-div-mul-add {a = 2000 * N + D} {b = 2 * D} (omega arith))
-  where
-    go : (K : ℕ) → K * (2 * D) ≤ 2000 * N + D → 2000 * N + D < K * (2 * D) + 2 * D → Rounded K N D
-    go K a b = record { least = omega (arith, simp ring at a); most = omega (arith, simp ring at b) }
+rounded N D p =
+    let a = div-mul-le-self (2 * thousandths * N + D) (2 * D) in
+    let b = lt-div-mul-add {a = 2 * thousandths * N + D} {b = 2 * D} (omega arith) in
+    record { least = omega (arith, simp ring at a); most = omega (arith, simp ring at b) }
 
 -- what #101 says of them
 record Close (K N D : ℕ) : Type 0 where
@@ -46,24 +46,24 @@ close-there K N D s r h a b = record { least = omega (arith, simp ring at (h .le
 -- ---- the formula at f = n − 3·Q, from whole numbers to numbers with sign
 
 -- (d − a)·q − b·(n − s)
-numerator-is : (d a q b n s : ℕ) → (pos d -ℤ pos a) *ℤ pos q -ℤ pos b *ℤ subℕ n s ≡ subℕ (d * q + b * s) (a * q + b * n)
+pub numerator-is : (d a q b n s : ℕ) → (pos d -ℤ pos a) *ℤ pos q -ℤ pos b *ℤ subℕ n s ≡ subℕ (d * q + b * s) (a * q + b * n)
 numerator-is d a q b n s =
     ap₂ _-ℤ_ (ap (λ (z : ℤ). z *ℤ pos q) (pos-less d a) ∙ sub-times q d a) (times-sub b n s) ∙ sub-sub (d * q) (a * q) (b * n) (b * s)
 
 -- c·q − e·(n − s)
-divisor-is : (c q e n s : ℕ) → pos c *ℤ pos q -ℤ pos e *ℤ subℕ n s ≡ subℕ (c * q + e * s) (0 + e * n)
+pub divisor-is : (c q e n s : ℕ) → pos c *ℤ pos q -ℤ pos e *ℤ subℕ n s ≡ subℕ (c * q + e * s) (0 + e * n)
 divisor-is c q e n s = ap₂ _-ℤ_ (pos-is (c * q)) (times-sub e n s) ∙ sub-sub (c * q) 0 (e * n) (e * s)
 
--- (100·k − 51)·D and (100·k + 51)·D, k = K − 1000
-least-is : (K D : ℕ) → (pos 100 *ℤ subℕ K thousandths -ℤ pos 51) *ℤ pos D ≡ subℕ ((100 * K + 0) * D) ((100000 + 51) * D)
-least-is K D =
-    ap (λ (z : ℤ). (z -ℤ pos 51) *ℤ pos D) (times-sub 100 K thousandths)
-    ∙ ap (λ (z : ℤ). z *ℤ pos D) (sub-sub (100 * K) 100000 51 0) ∙ sub-times D (100 * K + 0) (100000 + 51)
+-- (100·k − 51)·D and (100·k + 51)·D, k = i − j
+pub least-is : (i j D : ℕ) → (pos 100 *ℤ subℕ i j -ℤ pos 51) *ℤ pos D ≡ subℕ ((100 * i + 0) * D) ((100 * j + 51) * D)
+least-is i j D =
+    ap (λ (z : ℤ). (z -ℤ pos 51) *ℤ pos D) (times-sub 100 i j)
+    ∙ ap (λ (z : ℤ). z *ℤ pos D) (sub-sub (100 * i) (100 * j) 51 0) ∙ sub-times D (100 * i + 0) (100 * j + 51)
 
-most-is : (K D : ℕ) → (pos 100 *ℤ subℕ K thousandths +ℤ pos 51) *ℤ pos D ≡ subℕ ((100 * K + 51) * D) ((100000 + 0) * D)
-most-is K D =
-    ap (λ (z : ℤ). (z +ℤ pos 51) *ℤ pos D) (times-sub 100 K thousandths)
-    ∙ ap (λ (z : ℤ). z *ℤ pos D) (add-sub (100 * K) 100000 51 0) ∙ sub-times D (100 * K + 51) (100000 + 0)
+pub most-is : (i j D : ℕ) → (pos 100 *ℤ subℕ i j +ℤ pos 51) *ℤ pos D ≡ subℕ ((100 * i + 51) * D) ((100 * j + 0) * D)
+most-is i j D =
+    ap (λ (z : ℤ). (z +ℤ pos 51) *ℤ pos D) (times-sub 100 i j)
+    ∙ ap (λ (z : ℤ). z *ℤ pos D) (add-sub (100 * i) (100 * j) 51 0) ∙ sub-times D (100 * i + 51) (100 * j + 0)
 
 -- the divisor is D, and what is divided A − B, where A − B + D is N
 near : (t : Temperature) (d K N D A B : ℕ) (f : ℤ) → divisor t f ≡ pos D → numerator t d f ≡ subℕ A B → N + B ≡ A + D → 0 < D → Close K N D
@@ -73,10 +73,10 @@ near t d K N D A B f e n sum p c =
     record {
       divides = subst (λ (z : ℤ). pos 0 <ℤ z) (sym e) (record { lt = lt→ltb 0 D p });
       least =
-          subst₂ _≤ℤ_ (sym (ap (λ (z : ℤ). (pos 100 *ℤ subℕ K thousandths -ℤ pos 51) *ℤ z) e ∙ least-is K D)) scaled
+          subst₂ _≤ℤ_ (sym (ap (λ (z : ℤ). (pos 100 *ℤ subℕ K thousandths -ℤ pos 51) *ℤ z) e ∙ least-is K thousandths D)) scaled
           (sub-le ((100 * K + 0) * D) ((100000 + 51) * D) (100000 * A) (100000 * B) (simp ring (omega (arith, c .least))));
       most =
-          subst₂ _≤ℤ_ scaled (sym (ap (λ (z : ℤ). (pos 100 *ℤ subℕ K thousandths +ℤ pos 51) *ℤ z) e ∙ most-is K D))
+          subst₂ _≤ℤ_ scaled (sym (ap (λ (z : ℤ). (pos 100 *ℤ subℕ K thousandths +ℤ pos 51) *ℤ z) e ∙ most-is K thousandths D))
           (sub-le (100000 * A) (100000 * B) ((100 * K + 51) * D) ((100000 + 0) * D) (simp ring (omega (arith, c .most))));
     }
 
@@ -169,11 +169,11 @@ same-count : (t : Temperature) (d n N D : ℕ) → N ≡ sumAt t d n → D ≡ d
 unfolding countAt
 same-count t d n N D e f = ap₂ nearestThousandth e f
 
-pub counted : (t : Temperature) (d n N D : ℕ) → N ≡ sumAt t d n → D ≡ divisorAt t n → InFormula t d n
-    → (nearestThousandth N D ≡ countAt t d n) × (nearestThousandth N D < mostCount)
-counted t d n N D e f o =
-    let same = same-count t d n N D e f in
-    (same, subst (λ (k : ℕ). k < mostCount) (sym same) (few t d n o))
+pub counted : (t : Temperature) (d n N D K : ℕ) → K ≡ nearestThousandth N D → N ≡ sumAt t d n → D ≡ divisorAt t n → InFormula t d n
+    → (K ≡ countAt t d n) × (K < mostCount)
+counted t d n N D K k e f o =
+    let same = k ∙ same-count t d n N D e f in
+    (same, subst (λ (m : ℕ). m < mostCount) (sym same) (few t d n o))
 
 pub small-n : (t : Temperature) (n : ℕ) → n ≤ mostUpper t → n < half32
 small-n At40 n h = omega arith

@@ -5,12 +5,11 @@ use mathlib.Core.Bool.{true}
 use mathlib.Core.Logic.{inl}
 use native.Mathlib.Omega.{arith}
 use borrow.Author.Tests.{lt-ltb}
-use Rattle.logarithm.specs.Fractions.{Q-number}
 use Rattle.gravity_constant.specs.declared.questions.Temperature.{Temperature}
 use Rattle.gravity_constant.specs.declared.answer.ConstantAnswer.the-variants as answer
-use Rattle.gravity_constant.specs.Formula.{divisorStart, divisorSlope}
+use Rattle.gravity_constant.specs.Formula.{divisorSlope}
 use Rattle.gravity_constant.specs.Answer.{RightFound, RightConstant}
-use Rattle.gravity_constant.specs.Chosen.{apart, shift, lowerOf, constantAt, dividesAt, answerOf}
+use Rattle.gravity_constant.specs.Chosen.{apart, noDivisorFrom, lowerOf, constantAt, dividesAt, answerOf}
 use Rattle.gravity_constant.specs.Preconditions.{Passes}
 use Rattle.gravity_constant.proofs.QuestionOrder.{by-questions, none-refuses}
 use Rattle.gravity_constant.proofs.Cases as cases
@@ -19,7 +18,7 @@ use Rattle.gravity_constant.proofs.Near.{InFormula, in-formula, near-lo
 
 -- question 23 does not refuse: the divisor is above zero at both fractions
 divides : (t : Temperature) (d n : ℕ) → InFormula t d n → dividesAt t n ≡ true
-divides t d n o = lt-ltb (divisorSlope t * n) ((divisorStart t + shift * divisorSlope t) * Q-number) (omega (arith, o .divisor-above))
+divides t d n o = lt-ltb (divisorSlope t * n) (noDivisorFrom t) (omega (arith, o .divisor-above))
 
 module _ (t : Temperature) (v d : ℕ) (a : Passes t v d) where
   at-lower : InFormula t d (lowerOf t v)

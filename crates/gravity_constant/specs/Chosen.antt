@@ -95,9 +95,13 @@ constantAt t d n =
 
 -- ---- question 23, and the answer
 
+-- from where on the divisor is not above zero, as slope times n
+abbrev pub noDivisorFrom : Temperature → ℕ
+noDivisorFrom t = (divisorStart t + shift * divisorSlope t) * Q-number
+
 -- is the divisor above zero?
 abbrev pub dividesAt : Temperature → ℕ → Bool
-dividesAt t n = ltb (divisorSlope t * n) ((divisorStart t + shift * divisorSlope t) * Q-number)
+dividesAt t n = ltb (divisorSlope t * n) (noDivisorFrom t)
 
 -- the answer from the lower n, of an oil that the limits do not refuse
 unfoldable pub answerAt : Temperature → ℕ → ℕ → ConstantAnswer

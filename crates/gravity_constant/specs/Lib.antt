@@ -3,5 +3,6 @@
 pub mod Questions
 pub mod Formula
 pub mod Answer
+pub mod Forced
 pub mod Chosen
 pub mod Preconditions

@@ -8,7 +8,7 @@ ghost use Prim.Native.Nat.{_<_, _≤_, _+_, _*_, _^_};
 ghost use Rattle.logarithm.specs.Fractions.{Q-number};
 ghost use Rattle.gravity_constant.specs.Questions.{leastViscosity, greatestViscosity, leastDensity, greatestDensity};
 ghost use Rattle.gravity_constant.specs.Formula.{argument};
-ghost use Rattle.gravity_constant.specs.Chosen.{shift, digits, mostUpper, mostCount, lessLogarithm, divisorAt, sumAt, countAt, dividesAt};
+ghost use Rattle.gravity_constant.specs.Chosen.{shift, digits, mostUpper, mostCount, lessLogarithm, divisorAt, sumAt, nearestThousandth, countAt, dividesAt};
 use crate::questions::Temperature;
 use logarithm::Q;
 
@@ -96,14 +96,20 @@ fn sum_at(t: Temperature, d: u32, n: u64) -> u64
     }
 }
 
+// sum / divisor in thousandths, to the nearest.
+fn nearest_thousandth(sum: u64, divisor: u64) -> u64
+    requires { ⌜ (sum ≤ 32768 * Q-number) × (0 < divisor) × (divisor ≤ 12670 * Q-number) ⌝ }
+    ensures { λ r. ⌜ r ≡ nearestThousandth sum divisor ⌝ }
+{
+    (2 * THOUSANDTHS * sum + divisor) / (2 * divisor)
+}
+
 // The constant to the nearest thousandth, counted from −1000 thousandths.
 pub fn count_at(t: Temperature, d: u32, n: u64) -> u64
     requires { ⌜ (leastDensity ≤ d) × (d ≤ greatestDensity) × (n ≤ mostUpper t) ⌝ }
     ensures { λ r. ⌜ (r ≡ countAt t d n) × (r < mostCount) ⌝ }
 {
-    let sum = sum_at(t, d, n);
-    let divisor = divisor_at(t, n);
-    (2 * THOUSANDTHS * sum + divisor) / (2 * divisor)
+    nearest_thousandth(sum_at(t, d, n), divisor_at(t, n))
 }
 
 // Question 23, of one fraction: is the divisor above zero?

@@ -110,6 +110,17 @@ sub-le a b c d l =
     (λ k. rw (sub-neg a b h, sub-pos c d k) (record { le = tt })))
     (λ h. rw (sub-pos a b h, sub-pos c d (omega arith)) (pos-le (a - b) (c - d) (omega arith)))
 
+-- and only then
+pub le-sub : (a b c d : ℕ) → subℕ a b ≤ℤ subℕ c d → a + d ≤ c + b
+le-sub a b c d h =
+    by-order a b
+    (λ l. by-order c d
+    (λ k. let o : negsuc (b - suc a) ≤ℤ negsuc (d - suc c) = rw (sub-neg a b l, sub-neg c d k) at h in omega (arith, leb→le (d - suc c) (b - suc a) (o .le)))
+    (λ k. omega arith))
+    (λ l. by-order c d
+    (λ k. let o : pos (a - b) ≤ℤ negsuc (d - suc c) = rw (sub-pos a b l, sub-neg c d k) at h in absurd (o .le))
+    (λ k. let o : pos (a - b) ≤ℤ pos (c - d) = rw (sub-pos a b l, sub-pos c d k) at h in omega (arith, leb→le (a - b) (c - d) (o .le))))
+
 -- a − c is at most a − b where b is at most c
 pub sub-falls : (a b c : ℕ) → b ≤ c → subℕ a c ≤ℤ subℕ a b
 sub-falls a b c h = sub-le a c a b (omega arith)
