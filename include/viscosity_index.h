@@ -1,14 +1,16 @@
 /*
  * The viscosity index of ASTM D2270 from an oil's kinematic viscosities at 40 °C (u) and at 100 °C (y), each a whole number of
- * thousandths of a mm²/s: for one pair, and for a sheet of up to 2,000 pairs.
+ * thousandths of a mm²/s: for one pair, and for a sheet of up to 2,000 pairs. And the viscosity-gravity constant of an oil from its density
+ * and one of its viscosities.
  *
  * What a caller may rely on, for any numbers and any bytes:
- * - Both functions return, and answer one of the numbers below. There is nothing to test beforehand, to initialise or to free.
- * - They read and write only the bytes lent to them, remember nothing between calls, and may run at the same time on different buffers.
- *   A buffer may have any alignment. Where its length is 0, nothing is read through its pointer.
- * - The same pair always gets the same answer, in a record as in a sheet.
- * - A refused sheet, and a record that is not 16 bytes, are left as they were, byte for byte. The record of a refused pair is filled as
- *   any other, with the pair's number and zeros; a refused pair does not stop its sheet.
+ * - Every function returns, and answers one of the numbers below. There is nothing to test beforehand, to initialise or to free.
+ * - They read and write only the memory lent to them, remember nothing between calls, and may run at the same time on different memory.
+ *   A buffer of bytes may have any alignment, and a row of numbers that of its numbers. Where its length is 0, nothing is read through its
+ *   pointer.
+ * - The same question always gets the same answer; a pair in a record as in a sheet.
+ * - A refused sheet, a record that is not 16 bytes, a row that is not 3 numbers, and the row of a refused constant are left as they were. The
+ *   record of a refused pair is filled as any other, with the pair's number and zeros; a refused pair does not stop its sheet.
  *
  * Numbers in bytes are least significant first.
  */
@@ -41,6 +43,26 @@
 #define VI_SHEET_RESULTS 15u /* The same for the result block (offset + 16n)? */
 #define VI_SHEET_SHARED 16u  /* Do the blocks share no byte? */
 
+/* The limits of the constant's density at 15 °C, in 0.0001 g/ml, and of its viscosity at 40 °C or 100 °C, in thousandths of a mm²/s. */
+#define VI_DENSITY_LEAST 5000u                      /* 0.5 g/ml */
+#define VI_DENSITY_GREATEST 15000u                  /* 1.5 g/ml */
+#define VI_CONSTANT_40_LEAST 5501u                  /* 5.501 mm²/s */
+#define VI_CONSTANT_40_GREATEST 1000000000u         /* 1,000,000 mm²/s */
+#define VI_CONSTANT_100_LEAST 801u                  /* 0.801 mm²/s */
+#define VI_CONSTANT_100_GREATEST 500000u            /* 500 mm²/s */
+
+/* The number of a constant, likewise; VI_ANSWERED where every question is answered yes. */
+#define VI_CONSTANT_NOT_3 5u          /* asked first: Is the row just 3 numbers? */
+#define VI_VISCOSITY_OUTSIDE 21u      /* Is the viscosity within the range of its temperature? */
+#define VI_DENSITY_OUTSIDE 22u        /* Is the density from 5,000 to 15,000? */
+#define VI_DIVISOR_NOT_ABOVE_0 23u    /* Is the formula's divisor above zero at both fractions? No oil within the limits meets this number. */
+
+/* The row of a constant: three numbers, at these places. */
+#define VI_CONSTANT_SIZE 3u  /* numbers */
+#define VI_CONSTANT_K 0u     /* k, the constant in thousandths: the formula lies from k - 0.51 to k + 0.51 at both fractions */
+#define VI_CONSTANT_LOWER 1u /* the numerators over VI_Q of two fractions, the lower at or below the formula's logarithm */
+#define VI_CONSTANT_UPPER 2u /* and the upper at or above it; they are at most 64 apart. All three may be negative. */
+
 /* A sheet's header: four 32-bit numbers, at these offsets. The blocks stand in either order, with other bytes between. */
 #define VI_HEADER_SIZE 16u    /* bytes */
 #define VI_HEADER_COUNT 0u    /* n, the count of pairs */
@@ -68,7 +90,8 @@
 #define VI_METHOD_B_SETTLED 2u /* u below H: the standard's exact value is from k - 0.5 to k + 0.5, k the index */
 #define VI_METHOD_B_NEAR 3u    /* u below H: it is from k - 0.51 to k - 0.49, too close to a half to say more */
 
-/* p / Q and P / Q enclose the standard's N; whole-number powers of them show what the method says. The index by B is at most 10,000. */
+/* p / Q and P / Q enclose the standard's N, and a constant's two fractions its logarithm; whole-number powers show it. The index by B is at
+   most 10,000. */
 #define VI_Q 16777216u
 #define VI_INDEX_B_GREATEST 10000
 
@@ -87,6 +110,14 @@ uint32_t vi_pair(uint32_t u, uint32_t y, uint8_t *record, size_t length);
  * pairs, and every other byte is as it was; or one of 11 to 16, and then every byte is as it was.
  */
 uint32_t vi_sheet(uint8_t *sheet, size_t length);
+
+/*
+ * The viscosity-gravity constant of an oil from its viscosity at 40 °C, and from that at 100 °C. `row` points to `count` numbers. If count is
+ * not VI_CONSTANT_SIZE, answers VI_CONSTANT_NOT_3 and leaves them as they are. If the oil is refused, answers 21, 22 or 23 and leaves them too.
+ * Otherwise fills the row and answers VI_ANSWERED.
+ */
+uint32_t vi_constant_40(uint32_t viscosity, uint32_t density, int32_t *row, size_t count);
+uint32_t vi_constant_100(uint32_t viscosity, uint32_t density, int32_t *row, size_t count);
 
 #ifdef __cplusplus
 }

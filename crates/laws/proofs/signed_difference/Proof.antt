@@ -1,10 +1,10 @@
 -- Both numbers fit an i32, and so does their difference.
 use Prim.Native.Nat.{ℕ, _<_}
-use mathlib.Core.Path.{_≡_, _∙_, ap₂}
+use mathlib.Core.Path.{_≡_, sym, _∙_, ap, ap₂, subst}
 use lib.IntN.{ℤ, subℕ, _-ℤ_}
 use borrow.Author.Needs.{sfits-of, needs}
 use mir.Facts.{toZ-pos, toZ-ofZ}
-use mir.Val.{toZ}
+use mir.Val.{toZ, ofZ, SFits}
 use mir.Syntax.{w32}
 use Rattle.laws.specs.Bits.{half32}
 use Rattle.laws.proofs.Difference.{pos-less, difference-fits}
@@ -21,11 +21,15 @@ cast-result-2 : tie.Need-cast-result-2
 cast-result-2 c = search needs
 
 sub-result : tie.Need-sub-result
-sub-result c = rw (minus (c .args .a) (c .args .b) (c .pre .0) (c .pre .1)) (sfits-of (difference-fits _ _ (c .pre .0) (c .pre .1)))
+sub-result c =
+    let k = c .args in
+    subst (SFits w32) (sym (minus (k .a) (k .b) (c .pre .0) (c .pre .1))) (sfits-of (difference-fits _ _ (c .pre .0) (c .pre .1)))
 
 returns : tie.Need-returns
 returns c =
-    rw (minus (c .args .a) (c .args .b) (c .pre .0) (c .pre .1)) (toZ-ofZ {w = w32} (sfits-of (difference-fits _ _ (c .pre .0) (c .pre .1))))
+    let k = c .args in
+    ap (λ (z : ℤ). toZ w32 (ofZ w32 z)) (minus (k .a) (k .b) (c .pre .0) (c .pre .1))
+    ∙ toZ-ofZ {w = w32} (sfits-of (difference-fits _ _ (c .pre .0) (c .pre .1)))
 
 pub signed-difference-spec : {M : Type 1} → statement M
 signed-difference-spec = tie.close (tie.spec cast-result cast-result-2 sub-result returns)
