@@ -1,26 +1,33 @@
-/* Checks the records of a worked sheet from its bytes alone.
+/* Checks the records of a worked sheet, or those of constants, from their bytes
+   alone.
 
      audit [--quick] [--record I]... [--sample N] [--seed S] SHEET
+     audit [--quick] [--record I]... [--sample N] [--seed S] --constants FILE
      audit --help
 
    Nothing of the library is used: the table is the one read from the printed
-   standard, L, H and procedure A are whole numbers of GMP, and for procedure B
-   the four inequalities of document 01 are worked out as they stand, with real
-   powers to the exponent 16,777,216. Common factors of the two sides are
-   cancelled first; what is left is multiplied out and compared.
+   standard, L, H, procedure A and the constant's formulas are whole numbers, and
+   the four inequalities of document 01 for procedure B, and the two of a constant's
+   logarithm, are worked out as they stand, with real powers to the exponent
+   16,777,216. Common factors of the two sides are cancelled first; what is left is
+   multiplied out and compared.
 
    --quick encloses both sides' logarithms with MPFR, and works out the powers
    only where the enclosures do not decide.
 
+   A file of constants has a line for each: temperature viscosity density number,
+   and where the number is 0 also k lower upper. Lines may be blank; # begins a
+   comment. - is standard input.
+
    Records are counted from 0: --record 0 checks the first. --sample draws N
-   records, none twice, and all where the sheet has no more. Without --record and
+   records, none twice, and all where there are no more. Without --record and
    --sample every record is checked; one that is chosen twice is checked once.
 
    Exit code 0: every record checked is right; 1: some is not; 2: nothing was
    checked, or the report could not be written. Standard error has the reason.
    Nothing is checked where an option or its number cannot be read, the file
-   cannot be read, or the sheet is refused, has no records, has not the record
-   that is named, or is not worked.
+   cannot be read, has no records or not the record that is named, where a sheet is
+   refused or is not worked, or where a line of constants is no record.
 
    Not worked: in every record of the sheet number and method are both 0, or one
    of them is greater than any there is. No pair has such a record: the sheet was
@@ -36,7 +43,6 @@
 #include <string.h>
 
 enum { RIGHT = 0, WRONG = 1, NOTHING_CHECKED = 2 }; /* exit codes */
-enum { RECORDS_GREATEST = 2000 };
 
 /* ---- no audit ---- */
 
@@ -65,7 +71,7 @@ static void ask_output(void)
 struct file read_file(const char *path)
 {
     static uint8_t room[1 << 24];
-    FILE *file = fopen(path, "rb");
+    FILE *file = strcmp(path, "-") == 0 ? stdin : fopen(path, "rb");
     if (file == NULL)
         stop("%s: %s", path, strerror(errno));
     size_t length = fread(room, 1, sizeof room, file);
@@ -109,15 +115,18 @@ static const char *word(uint32_t n)
 /* ---- the command ---- */
 
 /* past: one more than the greatest record named, 0 if none is. */
-struct wish { bool help, chosen[RECORDS_GREATEST]; uint64_t past, sample, seed; const char *path; };
+struct wish { bool help, chosen[RECORDS_GREATEST]; uint64_t past, sample, seed; const char *path; bool constants; };
 
 static void print_usage(void)
 {
     printf("usage: audit [--quick] [--record I]... [--sample N] [--seed S] SHEET\n"
-           "Checks the records of a worked sheet from its bytes alone, by whole-number powers.\n"
+           "       audit [--quick] [--record I]... [--sample N] [--seed S] --constants FILE\n"
+           "Checks the records of a worked sheet, or those of constants, from their bytes alone, by whole-number powers.\n"
            "\n"
+           "  --constants FILE  checks constants: a line for each, temperature viscosity density number, and where the number\n"
+           "                    is 0 also k lower upper; lines may be blank, # begins a comment; - is standard input\n"
            "  --record I  checks record I; records are counted from 0; may be given again\n"
-           "  --sample N  checks N records drawn at random, none twice; all, where the sheet has no more\n"
+           "  --sample N  checks N records drawn at random, none twice; all, where there are no more\n"
            "  --seed S    draws another sample; 1 if it is not given\n"
            "  --quick     encloses logarithms with MPFR, and works out the powers only where that does not decide\n"
            "  --help, -h  prints this\n"
@@ -154,6 +163,23 @@ static void choose(struct wish *w, uint64_t i)
     w->past = i >= w->past ? i + 1 : w->past;
 }
 
+static void name_file(struct wish *w, const char *path, bool constants)
+{
+    if (w->path != NULL)
+        stop("two %s are named, %s and %s; audit --help", w->constants || constants ? "files" : "sheets", w->path, path);
+    w->path = path;
+    w->constants = constants;
+}
+
+/* The name after --constants; *i moves on to it. */
+static const char *name_after(char **argv, int *i)
+{
+    const char *name = argv[++*i];
+    if (name == NULL || (name[0] == '-' && name[1] != '\0'))
+        stop("--constants %s: a file is asked, or - for standard input; audit --help", name == NULL ? "without a name" : name);
+    return name;
+}
+
 static void read_wish(int argc, char **argv, struct wish *w)
 {
     for (int i = 1; i < argc; i++) {
@@ -167,12 +193,12 @@ static void read_wish(int argc, char **argv, struct wish *w)
             w->sample = number_after(argv, &i, 1, UINT32_MAX);
         else if (strcmp(argv[i], "--seed") == 0)
             w->seed = number_after(argv, &i, 0, UINT64_MAX);
+        else if (strcmp(argv[i], "--constants") == 0)
+            name_file(w, name_after(argv, &i), true);
         else if (argv[i][0] == '-')
             stop("%s is no option; audit --help", argv[i]);
-        else if (w->path != NULL)
-            stop("two sheets are named, %s and %s; audit --help", w->path, argv[i]);
         else
-            w->path = argv[i];
+            name_file(w, argv[i], false);
     }
 }
 
@@ -225,7 +251,7 @@ int main(int argc, char **argv)
     }
     if (w.path == NULL)
         stop("no sheet is named; audit --help");
-    struct records r = read_sheet(w.path);
+    struct records r = w.constants ? read_constants(w.path) : read_sheet(w.path);
     ask_records(&r, &w);
     double start = seconds();
     audit_chosen(&r, &w);

@@ -102,6 +102,8 @@ static void show_progress(int done, int of)
 {
     static double last;
     double now = seconds();
+    if (last == 0)
+        last = now;
     if (now < last + 2)
         return;
     last = now;

@@ -1,6 +1,6 @@
 #!/usr/bin/env bash
-# The audit passes nothing that it did not check: its usage, its options, the sheets that hold nothing to check, a report that cannot be
-# written; and the numbers that tests/audit/make_sheet.c and tests/audit.sh do not take. All in quick mode, a few seconds.
+# The audit passes nothing that it did not check: its usage, its options, the sheets that hold nothing to check, the lines that are no
+# constants, a report that cannot be written; and the numbers that tests/audit/make_sheet.c and tests/audit.sh do not take. All in quick mode, a few seconds.
 set -u
 . "$(dirname "$0")/compare/common.sh"
 have_headers
@@ -46,7 +46,7 @@ awk 'BEGIN { for (i = 0; i < 2000; i++) print 9000 + 7 * i, 2000 + i }' | "$work
 
 # ---- the usage ----
 
-for word in --quick '--record I .* counted from 0' '--sample N' '--seed S' --help '^  0  every' '^  1  a record' '^  2  nothing'; do
+for word in --quick '--constants FILE' 'temperature viscosity density number' '- is standard input' '--record I .* counted from 0' '--sample N' '--seed S' --help '^  0  every' '^  1  a record' '^  2  nothing'; do
     expect "--help, $word" 0 "$word" '' "$work/audit" --help
     expect "-h, $word" 0 "$word" '' "$work/audit" -h
 done
@@ -148,6 +148,80 @@ for byte in 0 2 3 4; do # number, bytes 2 and 3, index
     fails "byte $byte of the only record" "WRONG: record 0: "
 done
 
+# ---- constants ----
+
+# Blank lines and comments are no records; a tab and a carriage return are blanks.
+cat >"$work/constants" <<'LINES'
+# temperature viscosity density number k lower upper
+
+40 9500 8700 0 840 10100890 10100891
+  100\t1300 8700 0 861 -5050446 -5050445   # a logarithm below zero
+#40 1 1 1
+40 5500 8700 21
+40 1000000000 5000 0 -905 100663255 100663256
+100 801 15001 22
+LINES
+sed -i 's/\\t/\t/; 7s/$/\r/' "$work/constants"
+passes "constants" "passed: 5 records checked, 0 wrong" --constants "$work/constants"
+passes "constants, the option first and last" "passed: 1 record checked" --record 4 --constants "$work/constants" --seed 3
+grep -q '^  100 C, viscosity 801, density 15001: number 22$' "$work/out" || die "--record 4 is not the fifth constant"
+passes "--record 1 of constants" "passed: 1 record checked" --constants "$work/constants" --record 1
+grep -q ' k 861, lower -5050446, upper -5050445$' "$work/out" || die "--record 1 is not the second constant"
+nothing "the constant after the last" "--record 5: the file has 5 records, counted from 0" --record 5 --constants "$work/constants"
+passes "a sample of constants" "2 of 5 records drawn, seed 7" --sample 2 --seed 7 --constants "$work/constants"
+passes "a sample of constants, once" "passed: 2 records checked" --sample 2 --seed 7 --constants "$work/constants"
+passes "more than there are constants" "--sample 9: the file has 5 records, all are checked" --sample 9 --constants "$work/constants"
+expect "standard input" 0 '^audit: passed: 5 records' '' bash -c '"$1" --quick --constants - <"$2"' _ "$work/audit" "$work/constants"
+expect "no end of the last line" 0 '^audit: passed: 1 record' '' bash -c 'printf "40 5500 8700 21" | "$1" --quick --constants -' _ "$work/audit"
+expect "standard input closed" 2 '' 'nothing was checked: -: Bad file' bash -c '"$1" --constants - <&-' _ "$work/audit"
+sed 's/ 861 / 862 /' "$work/constants" >"$work/changed"
+expect "a wrong constant" 1 '^  WRONG: record 1: k is not that of the lower fraction' '' "$work/audit" --quick --constants "$work/changed"
+holds "$work/out" '^audit: FAILED: 5 records checked, 1 wrong' || die "a wrong constant: the last line is not FAILED"
+passes "the others of a file with a wrong constant" "passed: 1 record checked" --record 0 --constants "$work/changed"
+
+nothing "--constants at the end" "--constants without a name: a file is asked, or - for standard input" --constants
+nothing "--constants before an option" "--constants --record: a file is asked" --constants --record 0 "$work/constants"
+nothing "constants and a sheet" "two files are named, .*constants and .*worked" --constants "$work/constants" "$work/worked"
+nothing "a sheet and constants" "two files are named, .*worked and .*constants" "$work/worked" --constants "$work/constants"
+nothing "two files of constants" "two files are named" --constants "$work/constants" --constants "$work/constants"
+nothing "- as a sheet" "- is no option" -
+nothing "no file of constants" ".*/none: No such file" --constants "$work/none"
+nothing "a folder of constants" "samples: Is a directory" --constants samples
+nothing "a long file of constants" ".*/long: the file is longer" --constants "$work/long"
+nothing "a sheet as constants" "line 1: .* is not temperature" --constants "$work/worked"
+nothing "constants as a sheet" "the sheet is refused, it fails question 12" "$work/constants"
+for lines in '' '\n\n' '# none\n' '  # none'; do
+    printf "$lines" >"$work/changed"
+    nothing "no constants, '$lines'" "the file has no records" --constants "$work/changed"
+done
+yes '40 1 1 21' | head -n 1000001 >"$work/changed"
+nothing "1,000,001 constants" "line 1000001: a file has at most 1000000 constants" --constants "$work/changed"
+sed -i 1d "$work/changed"
+passes "the last of 1,000,000 constants" "passed: 1 record checked" --record 999999 --constants "$work/changed"
+
+# no_constant LINE REASON: with this line among others nothing is checked, and standard error says which it is and why.
+no_constant() {
+    printf '40 5500 8700 21\n\n%b\n100 801 15001 22\n' "$1" >"$work/changed"
+    nothing "the line '$1'" "line 3: \"${1%%[\\#]*}\" $2" --constants "$work/changed"
+}
+for line in 40 '40 9500' '40 9500 8700' '40 9500 8700 0 840' '40 9500 8700 0 840 10100890' '40 9500 8700 0 840 10100890 10100891 0' \
+    'x 9500 8700 21' '40 9500 8700 21x' '40 9.5 8700 21' '+40 9500 8700 21' '40 9500 8700 -' '40 9500 8700 --21' '40,9500,8700,21' \
+    '40 4294967296 8700 21' '40 9500 8700 99999999999999999999' '40 9500 8700 0x15' '40 9500 8700 0 840 - 1' '40 5500 8700 21\0 1'; do
+    no_constant "$line" 'is not temperature viscosity density number, nor that with k lower upper; whole numbers are asked'
+done
+for line in '0 9500 8700 21' '41 9500 8700 21' '-40 9500 8700 21' '4294967295 9500 8700 21' '1 0 0 21'; do
+    no_constant "$line" 'has another temperature than 40 or 100'
+done
+no_constant '40 -9500 8700 21' 'has a viscosity, density or number below zero'
+no_constant '40 9500 -8700 22' 'has a viscosity, density or number below zero'
+no_constant '40 9500 8700 -21' 'has a viscosity, density or number below zero'
+no_constant '40 9500 8700 0' 'has number 0 without k, lower and upper'
+no_constant '40 9500 8700 0#840 10100890 10100891' 'has number 0 without k, lower and upper'
+no_constant '40 5500 8700 21 0 0 0' 'has more than a number that is not 0'
+for answer in '2147483648 0 0' '-2147483649 0 0' '840 -2147483649 0' '840 0 2147483648'; do
+    no_constant "40 9500 8700 0 $answer" 'has a k, lower or upper of more than 32 bits'
+done
+
 # ---- the sheet of samples/make-sheet, worked ----
 
 # tests/make-sheet.sh holds three.sheet to samples/make-sheet, and rt holds the file stdout to what vi_work writes of stdin.
@@ -167,6 +241,7 @@ unwritten() {
 unwritten "a full disk" '>/dev/full' --quick "$work/worked"
 unwritten "the usage to a full disk" '>/dev/full' --help
 unwritten "output closed" '>&-' --quick "$work/worked"
+unwritten "constants to a full disk" '>/dev/full' --quick --constants "$work/constants"
 
 # Only the end of the last line is past what the file may hold, 1,024 bytes.
 passes "a short report" "passed: 1 record checked" --record 0 "$work/worked"
