@@ -34,6 +34,12 @@ static const struct formula *formula_of(const struct constant *c)
     return c->temperature == 40 ? &formula_1 : &formula_2;
 }
 
+/* x, what the logarithm is taken of, in thousandths. */
+static uint32_t argument_of(const struct constant *c)
+{
+    return c->viscosity - formula_of(c)->start;
+}
+
 /* The formula's numerator and divisor times Q, with log / Q as the logarithm. */
 static int64_t numerator_at(const struct constant *c, int32_t log)
 {
@@ -78,7 +84,7 @@ static bool enclosure_claim(const struct constant *c, int32_t log, bool lower)
 {
     struct side thousand = { .count = 0 }, x = { .count = 0 };
     times_power(&thousand, 1000, Q);
-    times_power(&x, c->viscosity - formula_of(c)->start, Q);
+    times_power(&x, argument_of(c), Q);
     times_power(log < 0 ? &x : &thousand, 10, log < 0 ? -(uint64_t)log : (uint64_t)log);
     return lower ? at_most(&thousand, &x) : at_most(&x, &thousand);
 }
@@ -86,6 +92,7 @@ static bool enclosure_claim(const struct constant *c, int32_t log, bool lower)
 static const char *audit_answer(const struct constant *c)
 {
     int32_t lower = c->lower, upper = c->upper;
+    printf("    x %" PRIu32 " thousandths of a mm2/s, the viscosity less %" PRIu32 "\n", argument_of(c), formula_of(c)->start);
     if (lower > upper)
         return "the lower numerator is above the upper one";
     if ((int64_t)upper - lower > APART_MOST)

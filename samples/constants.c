@@ -2,8 +2,8 @@
 
    Reads lines "temperature viscosity density" from standard input: 40 or 100, thousandths of a mm²/s at that temperature, and the density at
    15 °C in 0.0001 g/ml. Prints the three numbers again, then the answer's number, and where that is 0 also k in thousandths and the numerators
-   of the two fractions over 16,777,216. A blank line, and one that begins with #, is left out. Exit code 2 where a line is anything else, or
-   nothing could be written. Compiles as C and as C++. */
+   of the two fractions over 16,777,216. A blank line, and one that begins with #, is left out. Exit code 2 where a line is anything else or
+   longer than 1,022 characters, or where nothing could be written. Compiles as C and as C++. */
 #include "viscosity_index.h"
 
 #include <errno.h>
@@ -11,7 +11,7 @@
 #include <stdlib.h>
 #include <string.h>
 
-enum { LINE = 256, ROW = 3 };
+enum { LINE = 1024, ROW = 3 };
 
 /* A number of 32 bits, digits alone, up to a blank or the end; *at moves on past it and the blanks. */
 static int number(char **at, uint32_t *value)
@@ -47,10 +47,11 @@ int main(void)
     char line[LINE];
     for (unsigned place = 1; fgets(line, sizeof line, stdin) != NULL; place++) {
         uint32_t temperature, viscosity, density;
+        const int whole = strchr(line, '\n') != NULL || feof(stdin);
         char *first = line + strspn(line, " \t\r\n");
-        if (*first == '\0' || *first == '#')
+        if (whole && (*first == '\0' || *first == '#'))
             continue;
-        if (!oil_of(first, &temperature, &viscosity, &density)) {
+        if (!whole || !oil_of(first, &temperature, &viscosity, &density)) {
             line[strcspn(line, "\r\n")] = '\0';
             fprintf(stderr, "line %u: \"%.60s\" is not 40 or 100, a viscosity and a density, whole numbers of at most 32 bits\n", place, line);
             return 2;

@@ -231,7 +231,13 @@ passes "three.sheet, worked" "passed: 3 records checked" crates/vi_work/stdout
 # docs/EVIDENCE.md shows the report on this pair, but for the last line's time.
 echo '22830 5050' | "$work/make_sheet" >"$work/one" || die "making a sheet of one pair"
 passes "the pair of docs/EVIDENCE.md" "passed: 1 record checked" "$work/one"
-diff <(sed -n '/^    record 0$/,/^      right$/s/^    //p' docs/EVIDENCE.md) <(sed '$d' "$work/out") || die "docs/EVIDENCE.md shows another report"
+shown() { awk -v n="$1" '/^    record 0$/ { at++ } at == n { print substr($0, 5) } /^      right$/ && at == n { exit }' docs/EVIDENCE.md; }
+diff <(shown 1) <(sed '$d' "$work/out") || die "docs/EVIDENCE.md shows another report"
+
+# Then that on a constant, whose record it shows too; tests/audit-constants.sh holds the record to the library.
+sed -n 's/^The file then has the line `\([-0-9 ]*\)`.*/\1/p' docs/EVIDENCE.md >"$work/one"
+passes "the constant of docs/EVIDENCE.md" "passed: 1 record checked" --constants "$work/one"
+diff <(shown 2) <(sed '$d' "$work/out") || die "docs/EVIDENCE.md shows another report on a constant"
 
 # ---- a report that cannot be written ----
 
