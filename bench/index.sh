@@ -3,7 +3,7 @@
 #
 #   bench/index.sh           ns a pair and ratios, several repetitions, for oils below H, above H and a planner's mix
 #   bench/index.sh count     instructions a pair by valgrind's callgrind, which a noisy machine does not change
-#   bench/index.sh size      code size of the archive's objects, and the stack that vi_sheet and vi_pair use
+#   bench/index.sh size      code size of the archive's objects, and the stack that each call uses
 set -eu
 root=$(cd "$(dirname "$0")/.." && pwd)
 for package in libmpfr-dev valgrind; do

@@ -1,4 +1,4 @@
-/* The stack that vi_pair and vi_sheet use, measured: a block is filled, the stack pointer is set to a place in it, and the function is called from
+/* The stack that each C call uses, measured: a block is filled, the stack pointer is set to a place in it, and the function is called from
    there. The bytes are counted from that place, where the stack pointer stands just before the call instruction, down to the lowest that was changed:
    the return address, every frame, and what is written below the stack pointer. Each call is made with two fills, so that no byte passes for
    unchanged because it was written with the fill. The most of many calls is printed. For x86-64. */
@@ -12,7 +12,8 @@ enum { BELOW = 64 * 1024, ABOVE = 1024, MOST = VI_MOST_PAIRS, DRAWN = 20000 };
 
 static _Alignas(16) unsigned char block[BELOW + ABOVE];
 static uint8_t record[VI_RECORD_SIZE], sheet[VI_HEADER_SIZE + (VI_PAIR_SIZE + VI_RECORD_SIZE) * MOST];
-static long most_pair, most_sheet, calls_pair, calls_sheet;
+static int32_t row[3];
+static long most_pair, most_sheet, most_40, most_100, calls_pair, calls_sheet, calls_constant;
 
 /* Calls `function` with up to four arguments, the stack pointer at block + BELOW. */
 static void call_there(const void *function, uint64_t a, uint64_t b, uint64_t c, uint64_t d)
@@ -87,6 +88,28 @@ static uint32_t drawn(uint32_t least, uint32_t most) /* from least to most */
     return least + (uint32_t)(state % (most - least + 1u));
 }
 
+static void constant(uint32_t viscosity, uint32_t density, size_t count)
+{
+    long at_40 = used((const void *)vi_constant_40, viscosity, density, (uint64_t)(uintptr_t)row, count);
+    long at_100 = used((const void *)vi_constant_100, viscosity, density, (uint64_t)(uintptr_t)row, count);
+    most_40 = at_40 > most_40 ? at_40 : most_40;
+    most_100 = at_100 > most_100 ? at_100 : most_100;
+    calls_constant += 2;
+}
+
+/* limits, refused ones, a row that is not three numbers, and constants of every size */
+static void constants(void)
+{
+    static const uint32_t viscosities[] = {0, 800, 801, 1800, 5500, 5501, 6500, 500000, 500001, 1000000000, 1000000001, UINT32_MAX};
+    static const uint32_t densities[] = {0, 4999, 5000, 8700, 15000, 15001, UINT32_MAX};
+    for (size_t i = 0; i < sizeof viscosities / sizeof *viscosities; i++)
+        for (size_t j = 0; j < sizeof densities / sizeof *densities; j++)
+            constant(viscosities[i], densities[j], sizeof row / sizeof *row);
+    constant(9500, 8700, 0);
+    for (int i = 0; i < DRAWN; i++)
+        constant(drawn(801, i % 2 == 0 ? 200000 : 1000000000), drawn(5000, 15000), sizeof row / sizeof *row);
+}
+
 int main(void)
 {
     /* refused pairs, a pair by A, B settled, B near, an index above the thresholds, y above Table 1 */
@@ -110,6 +133,8 @@ int main(void)
     }
     one_sheet(0, VI_HEADER_SIZE);
     one_sheet(1, 0);
+    constants();
     printf("stack: vi_pair %ld bytes, vi_sheet %ld bytes, the most of %ld and of %ld calls\n", most_pair, most_sheet, calls_pair, calls_sheet);
+    printf("stack: vi_constant_40 %ld bytes, vi_constant_100 %ld bytes, the most of %ld calls\n", most_40, most_100, calls_constant);
     return 0;
 }
