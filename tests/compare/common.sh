@@ -37,7 +37,7 @@ build() {
 compile_parts() {
     local part
     parts=()
-    for part in harness pairs sheets oil; do
+    for part in harness pairs sheets constants oil constant; do
         gcc "${flags[@]}" -c "$root/tests/compare/$part.c" -o "$work/$part.o" || die "compiling $part.c"
         parts+=("$work/$part.o")
     done

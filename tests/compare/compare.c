@@ -1,7 +1,7 @@
-/* Compares the library, through its two C calls, with the implementation of
-   document 01 in oil.c and the model of a sheet in sheets.c.
+/* Compares the library, through its C calls, with the implementation of document
+   01 in oil.c, the model of a sheet in sheets.c and the constant in constant.c.
 
-     compare [--pairs N] [--sheets M] [--seed S]
+     compare [--pairs N] [--sheets M] [--constants C] [--seed S]
 
    Ends at the first difference with exit code 1 and a line that names it. */
 #include "compare.h"
@@ -24,12 +24,12 @@ static uint64_t option(int argc, char **argv, const char *name, uint64_t otherwi
 
 static bool options_known(int argc, char **argv)
 {
-    static const char *const names[] = { "--pairs", "--sheets", "--seed" };
+    static const char *const names[] = { "--pairs", "--sheets", "--constants", "--seed" };
     if (argc % 2 == 0)
         return false;
     for (int i = 1; i < argc; i += 2) {
         bool known = false;
-        for (int j = 0; j < 3; j++)
+        for (int j = 0; j < 4; j++)
             known = known || strcmp(argv[i], names[j]) == 0;
         if (!known)
             return false;
@@ -51,22 +51,37 @@ static void print_tally(void)
         printf(" %d: %" PRIu64 "%s", i, tally.sheet_refused[i], i < 16 ? "," : "\n");
 }
 
+static void print_constants(void)
+{
+    printf("constants %" PRIu64 ": at 40 %" PRIu64 ", at 100 %" PRIu64 ", refused by question",
+        tally.constants, tally.at_40, tally.constants - tally.at_40);
+    for (int i = 21; i <= 22; i++)
+        printf(" %d: %" PRIu64 "%s", i, tally.constant_refused[i], i < 22 ? "," : "\n");
+    printf("k from %" PRId64 " to %" PRId64 ", below zero %" PRIu64 "; logarithm below zero %" PRIu64,
+        tally.k_least, tally.k_greatest, tally.k_below_zero, tally.log_below_zero);
+    printf("; widest upper - lower %" PRId64 "\n", tally.widest_row);
+}
+
 int main(int argc, char **argv)
 {
     if (!options_known(argc, argv)) {
-        fprintf(stderr, "usage: compare [--pairs N] [--sheets M] [--seed S]\n");
+        fprintf(stderr, "usage: compare [--pairs N] [--sheets M] [--constants C] [--seed S]\n");
         return 2;
     }
     setvbuf(stdout, NULL, _IOLBF, 0);
     uint64_t pairs = option(argc, argv, "--pairs", 7000000);
     uint64_t sheets = option(argc, argv, "--sheets", 100000);
+    uint64_t constants = option(argc, argv, "--constants", 10000000);
     uint64_t seed = option(argc, argv, "--seed", 1);
     begin(seed);
     time_t start = time(NULL);
     compare_pairs(pairs);
     compare_sheets(sheets);
+    compare_constants(constants);
     print_tally();
-    printf("compare: passed: %" PRIu64 " pairs and %" PRIu64 " sheets agree, seed %" PRIu64 ", %ld s\n",
-        tally.pairs, tally.sheets, seed, (long)(time(NULL) - start));
+    print_constants();
+    printf("compare: passed: %" PRIu64 " pairs, %" PRIu64 " sheets and %" PRIu64 " constants agree",
+        tally.pairs, tally.sheets, tally.constants);
+    printf(", seed %" PRIu64 ", %ld s\n", seed, (long)(time(NULL) - start));
     return 0;
 }

@@ -51,6 +51,9 @@ static uint32_t now_u, now_y;
 static uint64_t now_which;
 static const uint8_t *now_bytes;
 static size_t now_length;
+static int now_degrees;
+static uint32_t now_viscosity, now_density;
+static const int32_t *now_row;
 
 void now_pair(uint32_t u, uint32_t y)
 {
@@ -65,6 +68,14 @@ void now_sheet(uint64_t which, const uint8_t *bytes, size_t length)
     now_length = length;
 }
 
+void now_constant(int degrees, uint32_t viscosity, uint32_t density, const int32_t *row)
+{
+    now_degrees = degrees;
+    now_viscosity = viscosity;
+    now_density = density;
+    now_row = row;
+}
+
 static void print_bytes(const char *name, const uint8_t *bytes, size_t length)
 {
     printf("  %s:", name);
@@ -73,9 +84,21 @@ static void print_bytes(const char *name, const uint8_t *bytes, size_t length)
     printf("\n");
 }
 
+static void print_constant(void)
+{
+    printf("  constant at %d: viscosity %" PRIu32 " density %" PRIu32 ", seed %" PRIu64 "\n",
+        now_degrees, now_viscosity, now_density, seed);
+    if (now_row != NULL)
+        printf("  row: %" PRId32 " %" PRId32 " %" PRId32 "\n", now_row[0], now_row[1], now_row[2]);
+}
+
 _Noreturn void fail(const char *what, const uint8_t *record)
 {
     printf("compare: FAILED: %s\n", what);
+    if (now_degrees != 0) {
+        print_constant();
+        exit(1);
+    }
     printf("  pair: u %" PRIu32 " y %" PRIu32 ", seed %" PRIu64 "\n", now_u, now_y, seed);
     if (record != NULL)
         print_bytes("record", record, RECORD);

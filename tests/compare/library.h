@@ -1,5 +1,5 @@
-/* The two C calls, declared here again from document 01 so that nothing of the
-   library's own header is relied on. */
+/* The C calls, declared here again from document 01 and change request #101 so
+   that nothing of the library's own header is relied on. */
 #ifndef LIBRARY_H
 #define LIBRARY_H
 
@@ -12,5 +12,11 @@ uint32_t vi_pair(uint32_t u, uint32_t y, uint8_t *record, size_t length);
 
 /* Works the sheet. Answers 11 to 16 for a refused one, 0 for an accepted one. */
 uint32_t vi_sheet(uint8_t *sheet, size_t length);
+
+/* The viscosity-gravity constant by the viscosity at 40 and at 100 degrees.
+   Answers 0 with the row k, lower and upper numerator; 21 or 22 if refused, 5
+   unless count is 3, both with the row untouched. */
+uint32_t vi_constant_40(uint32_t viscosity, uint32_t density, int32_t *row, size_t count);
+uint32_t vi_constant_100(uint32_t viscosity, uint32_t density, int32_t *row, size_t count);
 
 #endif

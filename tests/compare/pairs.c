@@ -4,7 +4,8 @@
 #include <math.h>
 #include <string.h>
 
-struct tally tally = { .index_least = INT64_MAX, .index_greatest = INT64_MIN };
+struct tally tally = { .index_least = INT64_MAX, .index_greatest = INT64_MIN,
+    .k_least = INT64_MAX, .k_greatest = INT64_MIN };
 
 /* ---- one pair ---- */
 
