@@ -1,8 +1,9 @@
 /* Would a single misread digit be noticed? Each row of Table 1 with its L or its
    H one more or one less in the last printed digit, and each coefficient of the
-   two quadratics likewise, is made into a library of its own; the comparison's
-   pairs for that place must end in a failure every time. The index itself has
-   to tell: the wrong library claims no more by p and P than its index needs. */
+   two quadratics and of the constant's two formulas likewise, is made into a
+   library of its own; the comparison's questions for that place must end in a
+   failure every time. The index itself has to tell: the wrong library claims no
+   more by p and P than its index needs. So has k: its fractions are right. */
 #include "compare.h"
 
 #include <stdio.h>
@@ -15,6 +16,7 @@
 
 static struct row rows[ROWS];
 static int64_t l_of[3] = { 8353, 1467, 216 }, h_of[3] = { 1684, 1185, 97 };
+static struct formula changed_40, changed_100;
 
 /* a y^2 + b y + c with a in 10^-4, b in 10^-2 and c whole, in 10^-10 mm2/s. */
 static int64_t quadratic(const int64_t *k, int64_t y)
@@ -59,6 +61,29 @@ uint32_t vi_sheet(uint8_t *sheet, size_t length)
     return 0;
 }
 
+static uint32_t constant_by(const struct formula *printed, const struct formula *changed,
+    uint32_t viscosity, uint32_t density, int32_t *row, size_t count)
+{
+    uint32_t number = count == ROW ? constant_question(printed, viscosity, density) : WRONG_LENGTH;
+    if (number != 0)
+        return number;
+    struct constant r = own_constant(printed, viscosity, density);
+    row[0] = viscosity > changed->shift ? own_constant(changed, viscosity, density).k : r.k;
+    row[1] = r.lower;
+    row[2] = r.upper;
+    return 0;
+}
+
+uint32_t vi_constant_40(uint32_t viscosity, uint32_t density, int32_t *row, size_t count)
+{
+    return constant_by(&at_40, &changed_40, viscosity, density, row, count);
+}
+
+uint32_t vi_constant_100(uint32_t viscosity, uint32_t density, int32_t *row, size_t count)
+{
+    return constant_by(&at_100, &changed_100, viscosity, density, row, count);
+}
+
 /* ---- one change after the other ---- */
 
 /* One in the last of the four printed digits of a number of thousandths. */
@@ -80,6 +105,11 @@ static void heavy(int unused)
     compare_heavy(1000);
 }
 
+static void places(int degrees)
+{
+    compare_formula(degrees == 40 ? &at_40 : &at_100, 500);
+}
+
 /* Runs part of the comparison in a process of its own; did it fail? */
 static bool noticed(void (*part)(int), int argument)
 {
@@ -99,13 +129,13 @@ static bool noticed(void (*part)(int), int argument)
 
 static int changes, missed;
 
-static void count(bool was_noticed, const char *what, int row)
+static void count(bool was_noticed, const char *what, int which)
 {
     changes++;
     if (was_noticed)
         return;
     missed++;
-    printf("digits: not noticed: %s, row %d\n", what, row);
+    printf("digits: not noticed: %s, %d\n", what, which);
 }
 
 static void try_row(int i, int sign)
@@ -128,12 +158,31 @@ static void try_coefficients(int64_t *k, const char *what)
         }
 }
 
+/* The formula's printed numbers, with one in the last digit of each. */
+static void try_formula(struct formula *f, const int32_t last[4])
+{
+    struct formula printed = *f;
+    int32_t *numbers[] = { &f->a, &f->b, &f->c, &f->d };
+    for (int sign = -1; sign <= 1; sign += 2) {
+        for (int i = 0; i < 4; i++) {
+            *numbers[i] += sign * last[i];
+            count(noticed(places, f->degrees), "a number of the constant's formula", i);
+            *f = printed;
+        }
+        f->shift += (uint32_t)(sign * 100);     /* 5.5 and 0.8 */
+        count(noticed(places, f->degrees), "what is taken from the viscosity", f->degrees);
+        *f = printed;
+    }
+}
+
 int main(void)
 {
     begin(1);
     memcpy(rows, table, sizeof rows);
-    if (noticed(around_row, 100) || noticed(heavy, 0)) {
-        printf("digits: FAILED: the table as printed does not pass\n");
+    changed_40 = at_40;
+    changed_100 = at_100;
+    if (noticed(around_row, 100) || noticed(heavy, 0) || noticed(places, 40) || noticed(places, 100)) {
+        printf("digits: FAILED: the table and the formulas as printed do not pass\n");
         return 1;
     }
     for (int i = 0; i < ROWS; i++) {
@@ -142,6 +191,8 @@ int main(void)
     }
     try_coefficients(l_of, "a coefficient of L");
     try_coefficients(h_of, "a coefficient of H");
+    try_formula(&changed_40, (const int32_t[]){ 1, 1, 100, 10 });      /* 0.0664 0.1154 0.94 0.109 */
+    try_formula(&changed_100, (const int32_t[]){ 10, 1, 100, 10 });    /* 0.108 0.1255 0.90 0.097 */
     printf("digits: %s: %d changes of one digit, %d not noticed\n", missed == 0 ? "passed" : "FAILED", changes, missed);
     return missed == 0 ? 0 : 1;
 }
