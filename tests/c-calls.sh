@@ -1,5 +1,5 @@
 #!/usr/bin/env bash
-# Both C functions, linked from the archive, on every question at its edge and on sheets of every shape: tests/c/calls.c.
+# The C functions, linked from the archive, on every question at its edge, on sheets of every shape and rows of every count: tests/c/calls.c.
 set -eu
 cd "$(dirname "$0")/.."
 work=$(mktemp -d)

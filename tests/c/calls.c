@@ -1,13 +1,17 @@
 /*
- * Calls vi_pair and vi_sheet as firmware does: every question's number at its edge, buffers of no length, both orders of the blocks, gaps,
- * 2,000 pairs, result blocks full of garbage, unaligned buffers. What a sheet should hold after a call is put together here from its bytes
- * before and from vi_pair's records, and all of it is compared, with the bytes on either side of the buffer.
+ * Calls the library as firmware does: every question's number at its edge, buffers of no length, both orders of the blocks, gaps, 2,000
+ * pairs, result blocks full of garbage, unaligned buffers, rows of every count that end where the memory ends. What a sheet should hold
+ * after a call is put together here from its bytes before and from vi_pair's records, and all of it is compared, with the bytes on either
+ * side of the buffer.
  */
+#define _DEFAULT_SOURCE
 #include "viscosity_index.h"
 
 #include <stdio.h>
 #include <stdlib.h>
 #include <string.h>
+#include <sys/mman.h>
+#include <unistd.h>
 
 enum { GUARD = 64, ROOM = 65536, STEPS = 8 };
 
@@ -235,6 +239,104 @@ static void order(uint32_t y, uint32_t from, uint32_t stride)
     }
 }
 
+/* ---- constants ---- */
+
+enum { ROW = 3, BEFORE = 5, MOST_NUMBERS = 16, ROW_NOT_3 = 5, VISCOSITY_OUTSIDE = 21, DENSITY_OUTSIDE = 22, MOST_APART = 64 };
+typedef uint32_t constant_call(uint32_t viscosity, uint32_t density, int32_t *row, size_t count);
+
+/* numbers that end where the memory ends: a touch of what follows them ends the program */
+static int32_t *last_numbers(size_t count)
+{
+    static uint8_t *end;
+    const size_t page = (size_t)sysconf(_SC_PAGESIZE);
+    if (end == NULL) {
+        uint8_t *pages = mmap(NULL, 2 * page, PROT_READ | PROT_WRITE, MAP_PRIVATE | MAP_ANONYMOUS, -1, 0);
+        if (pages == MAP_FAILED || mprotect(pages + page, page, PROT_NONE) != 0)
+            exit(2);
+        end = pages + page;
+    }
+    return (int32_t *)(void *)(end - count * sizeof(int32_t));
+}
+
+/* the call's number; k and two fractions that may be right, or every number of the row as it was */
+static void constant_is(constant_call *call, uint32_t viscosity, uint32_t density, uint32_t number, int32_t k)
+{
+    for (size_t after = 0; after <= 4; after++) {
+        const size_t size = (BEFORE + ROW + after) * sizeof(int32_t);
+        int32_t *numbers = last_numbers(BEFORE + ROW + after), *row = numbers + BEFORE, as_before[BEFORE + ROW + 4];
+        fill((uint8_t *)numbers, size);
+        memcpy(as_before, numbers, size);
+        const uint32_t got = call(viscosity, density, row, ROW);
+        check(got == number, "the number of a constant", got, number);
+        if (number == 0) {
+            const int64_t apart = (int64_t)row[2] - row[1];
+            check(row[0] == k, "k", (unsigned long)row[0], (unsigned long)k);
+            check(apart >= 0 && apart <= MOST_APART, "the fractions of a constant", (unsigned long)apart, MOST_APART);
+            memcpy(row, as_before + BEFORE, ROW * sizeof *row);
+        }
+        check(memcmp(numbers, as_before, size) == 0, "the numbers of a refused row and beside a row", 1, 0);
+    }
+}
+
+static void constants_at_40(void)
+{
+    constant_is(vi_constant_40, 9500, 8700, 0, 840);
+    constant_is(vi_constant_40, 46000, 8750, 0, 815);
+    constant_is(vi_constant_40, 6500, 8600, 0, 844);
+    constant_is(vi_constant_40, 1000000000, 5000, 0, -905);
+    constant_is(vi_constant_40, 1000000000, 15000, 0, 2592);
+    constant_is(vi_constant_40, 1000000000, 7588, 0, 0);
+    constant_is(vi_constant_40, 1000000001, 8700, VISCOSITY_OUTSIDE, 0);
+    constant_is(vi_constant_40, 5501, 5000, 0, 615);
+    constant_is(vi_constant_40, 5500, 5000, VISCOSITY_OUTSIDE, 0);
+    constant_is(vi_constant_40, 0, 8700, VISCOSITY_OUTSIDE, 0);
+    constant_is(vi_constant_40, UINT32_MAX, 8700, VISCOSITY_OUTSIDE, 0);
+    constant_is(vi_constant_40, 9500, 4999, DENSITY_OUTSIDE, 0);
+    constant_is(vi_constant_40, 9500, 5000, 0, 416);
+    constant_is(vi_constant_40, 9500, 15000, 0, 1560);
+    constant_is(vi_constant_40, 9500, 15001, DENSITY_OUTSIDE, 0);
+    constant_is(vi_constant_40, 9500, UINT32_MAX, DENSITY_OUTSIDE, 0);
+    /* both questions fail: the first gives its number */
+    constant_is(vi_constant_40, 5500, 4999, VISCOSITY_OUTSIDE, 0);
+    constant_is(vi_constant_40, UINT32_MAX, UINT32_MAX, VISCOSITY_OUTSIDE, 0);
+}
+
+static void constants_at_100(void)
+{
+    constant_is(vi_constant_100, 2500, 8700, 0, 835);
+    constant_is(vi_constant_100, 1800, 9000, 0, 880);
+    constant_is(vi_constant_100, 801, 5000, 0, 645);
+    constant_is(vi_constant_100, 800, 5000, VISCOSITY_OUTSIDE, 0);
+    constant_is(vi_constant_100, 0, 8700, VISCOSITY_OUTSIDE, 0);
+    constant_is(vi_constant_100, 500000, 5000, 0, 84);
+    constant_is(vi_constant_100, 500000, 15000, 0, 1650);
+    constant_is(vi_constant_100, 500001, 8700, VISCOSITY_OUTSIDE, 0);
+    constant_is(vi_constant_100, UINT32_MAX, 8700, VISCOSITY_OUTSIDE, 0);
+    constant_is(vi_constant_100, 2500, 4999, DENSITY_OUTSIDE, 0);
+    constant_is(vi_constant_100, 2500, 5000, 0, 414);
+    constant_is(vi_constant_100, 2500, 15000, 0, 1553);
+    constant_is(vi_constant_100, 2500, 15001, DENSITY_OUTSIDE, 0);
+    constant_is(vi_constant_100, 500001, 15001, VISCOSITY_OUTSIDE, 0);
+    constant_is(vi_constant_100, 0, 0, VISCOSITY_OUTSIDE, 0);
+}
+
+/* a row of any other count is left as it was, whatever is asked; one of no numbers may have no place */
+static void row_counts(constant_call *call)
+{
+    static const uint32_t asked[][2] = {{9500, 8700}, {0, 8700}, {9500, 4999}, {UINT32_MAX, 0}};
+    int32_t as_before[MOST_NUMBERS];
+    for (size_t count = 0; count <= MOST_NUMBERS; count++)
+        for (size_t i = 0; i < 4 && count != ROW; i++) {
+            int32_t *row = last_numbers(count);
+            fill((uint8_t *)row, count * sizeof *row);
+            memcpy(as_before, row, count * sizeof *row);
+            const uint32_t got = call(asked[i][0], asked[i][1], row, count);
+            check(got == ROW_NOT_3, "a row that is not 3 numbers", got, ROW_NOT_3);
+            check(memcmp(row, as_before, count * sizeof *row) == 0, "a row that is not 3 numbers is kept", 1, 0);
+        }
+    check(call(9500, 8700, NULL, 0) == ROW_NOT_3, "no row", 0, ROW_NOT_3);
+}
+
 int main(void)
 {
     pair_edges();
@@ -246,10 +348,14 @@ int main(void)
     order(70000, 70001, 1999);
     order(70001, 70002, 1999);
     order(500000, 500001, 400000);
+    constants_at_40();
+    constants_at_100();
+    row_counts(vi_constant_40);
+    row_counts(vi_constant_100);
     if (failures != 0) {
         printf("C calls: %u of %u checks failed\n", failures, checks);
         return 1;
     }
-    printf("C calls: %u checks of vi_pair and vi_sheet\n", checks);
+    printf("C calls: %u checks of the pairs, the sheets and the constants\n", checks);
     return 0;
 }
