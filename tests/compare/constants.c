@@ -157,11 +157,12 @@ static void whole_logarithms(const struct formula *f)
 }
 
 /* The x at 40 degrees whose logarithm lies closest to a fraction, all of them to
-   within 2^-27 of a numerator, and the two closest at 100 degrees. */
+   within 2^-27 of a numerator, and the two closest at 100 degrees; found by
+   tests/hard/search-constants.sh. */
 static void logarithms_beside_a_fraction(void)
 {
-    static const uint32_t xs[] = { 628339567, 103162668, 356209094, 996932764, 230497073, 4439958, 44399580,
-        443995800, 367308713, 200132835, 498743545, 101472809, 259215486, 452782, 60213 };
+    static const uint32_t xs[] = { 4439958, 44399580, 101472809, 103162668, 200132835, 230497073, 259215486,
+        356209094, 367308713, 443995800, 498743545, 628339567, 996932764, 452782, 60213 };
     for (size_t i = 0; i < sizeof xs / sizeof *xs; i++)
         for (uint32_t density = DENSITY_LEAST; density <= DENSITY_GREATEST; density += 500) {
             ask(&at_40, xs[i] + at_40.shift, density);
@@ -170,13 +171,16 @@ static void logarithms_beside_a_fraction(void)
         }
 }
 
-/* The formula is closest to a half here, of every density with every half: 1.5e-14
-   to 3e-13 of a thousandth away at 40 degrees, 2.4e-10 to 6.7e-10 at 100. */
+/* The formula is closest to a half here, of every density with every half: five
+   below zero and five above at 40 degrees, from 1.5e-14 of a thousandth away, and
+   five at 100, from 2.4e-10 away; found by tests/hard/search-constants.sh. */
 static void closest_to_a_half(void)
 {
-    static const uint32_t cases_40[][2] = { { 230576674, 6499 }, { 79571247, 5522 }, { 774996431, 13280 },
-        { 676696220, 9647 }, { 282187022, 14925 }, { 842424927, 8630 }, { 365292463, 12377 } };
-    static const uint32_t cases_100[][2] = { { 42810, 9091 }, { 250670, 5741 }, { 22360, 11381 }, { 291270, 9873 } };
+    static const uint32_t cases_40[][2] = { { 230576674, 6499 }, { 79571247, 5522 }, { 382207705, 5629 },
+        { 587791733, 7233 }, { 984698847, 6214 }, { 774996431, 13280 }, { 676696220, 9647 }, { 282187022, 14925 },
+        { 842424927, 8630 }, { 365292463, 12377 } };
+    static const uint32_t cases_100[][2] = { { 42810, 9091 }, { 250670, 5741 }, { 22360, 11381 }, { 291270, 9873 },
+        { 185770, 11294 } };
     for (size_t i = 0; i < sizeof cases_40 / sizeof *cases_40; i++)
         ask(&at_40, cases_40[i][0], cases_40[i][1]);
     for (size_t i = 0; i < sizeof cases_100 / sizeof *cases_100; i++)
