@@ -1,8 +1,9 @@
 #!/usr/bin/env bash
 # Shows that the comparison can fail: each of these wrong libraries, made from
 # the real one by tests/compare/wrong.c and wrong_constants.c, must be noticed. The
-# real one must pass the same short run. Then every last digit of the table and of
-# the two formulas, one more and one less.
+# real one must pass the same short run, and so must three that choose otherwise
+# where the constant's request leaves the choice free. Then every last digit of the
+# table and of the two formulas, one more and one less.
 set -euo pipefail
 . "$(dirname "$0")/compare/common.sh"
 have_headers
@@ -82,6 +83,13 @@ wrong_constants=(
     "density 15,001 answered"
 )
 
+# The numbers that follow: right, but chosen otherwise.
+right_constants=(
+    "the other k where two fit"
+    "fractions 64 apart, the lower one far below"
+    "fractions 64 apart, the upper one far above"
+)
+
 build_compare sound
 "$work/sound" "${short[@]}" >"$work/out" 2>&1 || { cat "$work/out"; die "the real library fails the short run"; }
 
@@ -100,8 +108,14 @@ must_notice() {
 for i in "${!wrong[@]}"; do
     must_notice wrong.c $((i + 1)) "${wrong[$i]}" --wrap=vi_pair,--wrap=vi_sheet
 done
+constants=--wrap=vi_constant_40,--wrap=vi_constant_100
 for i in "${!wrong_constants[@]}"; do
-    must_notice wrong_constants.c $((i + 1)) "${wrong_constants[$i]}" --wrap=vi_constant_40,--wrap=vi_constant_100
+    must_notice wrong_constants.c $((i + 1)) "${wrong_constants[$i]}" "$constants"
+done
+for i in "${!right_constants[@]}"; do
+    build_compare right -DWRONG=$((${#wrong_constants[@]} + i + 1)) "$root/tests/compare/wrong_constants.c" "-Wl,$constants"
+    "$work/right" "${short[@]}" >"$work/out" 2>&1 || { cat "$work/out"; die "not let pass: ${right_constants[$i]}"; }
+    echo "passes: ${right_constants[$i]}: $(sed -n 's/^k from .*; widest/widest/p' "$work/out")"
 done
 # Needs no library: the wrong ones are our own with another table.
 from=$root/tests/compare

@@ -1,5 +1,7 @@
 /* Constants that are wrong on purpose, put before the library as those of wrong.c
-   are; -DWRONG=n chooses the fault. The comparison must notice each one. */
+   are; -DWRONG=n chooses the fault. The comparison must notice each one. With the
+   last three numbers they are right but chosen otherwise, as the request allows,
+   and must pass. */
 #include "constant.h"
 #include "library.h"
 #include "oil.h"
@@ -15,7 +17,7 @@ enum {
     OTHER_FORMULA = 1, NATURAL, TOWARD_ZERO, THREE_DECIMALS, ONE_MORE, EXCHANGED, INVENTED, WITHOUT_SIGN, CUT_LOG,
     LOWER_TOO_GREAT, UPPER_TOO_SMALL, TAKEN_FOR_FRACTION, APART_65, LOWER_ONLY, UPPER_ONLY, DENSITY_FIRST,
     DENSITY_16_BITS, REFUSES_ALL, COUNT_NOT_ASKED, REFUSED_CHANGED, LEFT_AS_FOUND, BESIDE_ROW, FIRST_TO_ALL,
-    AT_100_FOR_40, AT_40_FOR_100, LIMITS
+    AT_100_FOR_40, AT_40_FOR_100, LIMITS, OTHER_K = LIMITS + 12, FAR_BELOW, FAR_ABOVE
 };
 
 static uint32_t ask_library(const struct formula *f, uint32_t viscosity, uint32_t density, int32_t *row, size_t count)
@@ -41,7 +43,7 @@ static uint32_t within(uint32_t value, uint32_t least, uint32_t greatest)
 
 static uint32_t with_limit_moved(const struct formula *f, uint32_t viscosity, uint32_t density, int32_t *row)
 {
-    size_t i = WRONG < LIMITS ? 0 : WRONG - LIMITS;
+    size_t i = WRONG < LIMITS || WRONG >= OTHER_K ? 0 : WRONG - LIMITS;
     bool by_density = moved[i].degrees == 0;
     bool here = by_density ? density == moved[i].density
                            : f->degrees == moved[i].degrees && viscosity == moved[i].viscosity;
@@ -169,6 +171,22 @@ static void spoil_fractions(struct constant *r, const struct formula *f, uint32_
     }
 }
 
+/* ---- other answers that are right ---- */
+
+/* Fractions as far apart as they may be, or another k, if one fits. */
+static void choose_otherwise(struct constant *r, const struct formula *f, uint32_t density)
+{
+    struct constant other = *r;
+    other.lower = WRONG == FAR_BELOW ? r->upper - APART_GREATEST : r->lower;
+    other.upper = WRONG == FAR_ABOVE ? r->lower + APART_GREATEST : r->upper;
+    for (other.k = r->k - 1; other.k <= r->k + 1; other.k++)
+        if ((WRONG != OTHER_K || other.k != r->k) && fits(f, density, other.lower, other.k) &&
+            fits(f, density, other.upper, other.k)) {
+            *r = other;
+            return;
+        }
+}
+
 /* ---- the calls ---- */
 
 static uint32_t wrong_number(const struct formula *f, uint32_t viscosity, uint32_t density, int32_t *row)
@@ -179,7 +197,7 @@ static uint32_t wrong_number(const struct formula *f, uint32_t viscosity, uint32
         return 22;
     if (WRONG == DENSITY_16_BITS)
         density = (uint16_t)density;
-    if (WRONG >= LIMITS)
+    if (WRONG >= LIMITS && WRONG < OTHER_K)
         return with_limit_moved(f, viscosity, density, row);
     return ask_library(f, viscosity, density, row, ROW);
 }
@@ -196,7 +214,9 @@ static uint32_t work_wrongly(const struct formula *f, uint32_t viscosity, uint32
     if (WRONG == LEFT_AS_FOUND || number != 0)
         return number;
     struct constant r = { answer[0], answer[1], answer[2] };
-    if (WRONG < LIMITS) {
+    if (WRONG >= OTHER_K) {
+        choose_otherwise(&r, f, density);
+    } else if (WRONG < LIMITS) {
         spoil_k(&r, f, viscosity, density);
         spoil_fractions(&r, f, viscosity, density);
     }
