@@ -1,7 +1,7 @@
 /* Compares the library, through its C calls, with the implementation of document
    01 in oil.c, the model of a sheet in sheets.c and the constant in constant.c.
 
-     compare [--pairs N] [--sheets M] [--constants C] [--seed S]
+     compare [--pairs N] [--sheets M] [--constants C] [--powers P] [--seed S]
 
    Ends at the first difference with exit code 1 and a line that names it. */
 #include "compare.h"
@@ -24,12 +24,12 @@ static uint64_t option(int argc, char **argv, const char *name, uint64_t otherwi
 
 static bool options_known(int argc, char **argv)
 {
-    static const char *const names[] = { "--pairs", "--sheets", "--constants", "--seed" };
+    static const char *const names[] = { "--pairs", "--sheets", "--constants", "--powers", "--seed" };
     if (argc % 2 == 0)
         return false;
     for (int i = 1; i < argc; i += 2) {
         bool known = false;
-        for (int j = 0; j < 4; j++)
+        for (int j = 0; j < 5; j++)
             known = known || strcmp(argv[i], names[j]) == 0;
         if (!known)
             return false;
@@ -65,7 +65,7 @@ static void print_constants(void)
 int main(int argc, char **argv)
 {
     if (!options_known(argc, argv)) {
-        fprintf(stderr, "usage: compare [--pairs N] [--sheets M] [--constants C] [--seed S]\n");
+        fprintf(stderr, "usage: compare [--pairs N] [--sheets M] [--constants C] [--powers P] [--seed S]\n");
         return 2;
     }
     setvbuf(stdout, NULL, _IOLBF, 0);
@@ -77,7 +77,7 @@ int main(int argc, char **argv)
     time_t start = time(NULL);
     compare_pairs(pairs);
     compare_sheets(sheets);
-    compare_constants(constants);
+    compare_constants(constants, option(argc, argv, "--powers", 4));
     print_tally();
     print_constants();
     printf("compare: passed: %" PRIu64 " pairs, %" PRIu64 " sheets and %" PRIu64 " constants agree",

@@ -49,7 +49,8 @@ void compare_pairs(uint64_t wanted);
 void compare_row(int row);
 void compare_heavy(uint32_t step);
 void compare_sheets(uint64_t wanted);
-void compare_constants(uint64_t wanted);
+/* Of the named ones, the first by_powers by whole powers too. */
+void compare_constants(uint64_t wanted, uint64_t by_powers);
 /* Those beside the places where k changes, every step-th of each density; a part
    of compare_constants. */
 void compare_formula(const struct formula *f, int64_t step);

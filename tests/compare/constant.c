@@ -1,6 +1,7 @@
 #include "constant.h"
 #include "oil.h"
 
+#include <gmp.h>
 #include <math.h>
 #include <mpfr.h>
 
@@ -72,6 +73,23 @@ int compare_with_log(uint32_t x, int64_t whole)
         if (sign != 0)
             return sign;
     }
+}
+
+int compare_powers(uint32_t x, int64_t whole)
+{
+    /* The tens of x are taken from both sides. */
+    int64_t tens = whole + 3 * (int64_t)Q;
+    for (; x % 10 == 0; x /= 10)
+        tens -= Q;
+    if (tens < 0)
+        return -1;
+    mpz_t left, right;
+    mpz_inits(left, right, NULL);
+    mpz_ui_pow_ui(left, 10, (unsigned long)tens);
+    mpz_ui_pow_ui(right, x, Q);
+    int order = mpz_cmp(left, right);
+    mpz_clears(left, right, NULL);
+    return (order > 0) - (order < 0);
 }
 
 /* ---- the formula ---- */

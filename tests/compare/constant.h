@@ -38,6 +38,9 @@ uint32_t constant_question(const struct formula *f, uint32_t viscosity, uint32_t
 /* The sign of whole - Q*log10(x/1000), exact; x is at least 1. */
 int compare_with_log(uint32_t x, int64_t whole);
 
+/* The same by the whole powers themselves, 10^whole 1000^Q and x^Q, in seconds. */
+int compare_powers(uint32_t x, int64_t whole);
+
 /* The formula in long double, in thousandths: with this logarithm, and with that
    of x/1000. */
 long double constant_with_log(const struct formula *f, uint32_t density, long double log);

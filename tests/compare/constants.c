@@ -41,8 +41,8 @@ static void count_answered(const struct formula *f, uint32_t viscosity, const st
         tally.widest_row = (int64_t)r->upper - r->lower;
 }
 
-/* Asks and checks everything about the answer; k is 0 where it is refused. */
-static int32_t ask(const struct formula *f, uint32_t viscosity, uint32_t density)
+/* Asks and checks everything about the answer; zeros stand for a refused one. */
+static struct constant ask(const struct formula *f, uint32_t viscosity, uint32_t density)
 {
     /* Half of the rows end at the end of the memory; what they held varies. */
     uint64_t chosen = random64();
@@ -59,13 +59,13 @@ static int32_t ask(const struct formula *f, uint32_t viscosity, uint32_t density
             fail(number != 0 ? "a refused row changed" : "numbers beside the row changed", NULL);
     count_number(f, number);
     if (number != 0)
-        return 0;
+        return (struct constant){ 0, 0, 0 };
     struct constant r = { row[0], row[1], row[2] };
     const char *what = constant_fault(f, viscosity, density, &r);
     if (what != NULL)
         fail(what, NULL);
     count_answered(f, viscosity, &r);
-    return r.k;
+    return r;
 }
 
 static void ask_both(uint32_t viscosity, uint32_t density)
@@ -89,8 +89,22 @@ static void printed_constants(void)
         { &at_100, 5000, 801, 645 },            /* 645.256 */
     };
     for (size_t i = 0; i < sizeof printed / sizeof *printed; i++)
-        if (ask(printed[i].f, printed[i].viscosity, printed[i].density) != printed[i].k)
+        if (ask(printed[i].f, printed[i].viscosity, printed[i].density).k != printed[i].k)
             fail("a constant worked out apart", NULL);
+}
+
+/* The enclosure as the request has it, with the powers multiplied out: x is 2,
+   4,000, 1,700 and 40,500; tens apart, the numbers have up to 145 million bits. */
+static void by_whole_powers(uint64_t wanted)
+{
+    static const struct { const struct formula *f; uint32_t viscosity; } named[] = {
+        { &at_40, 5502 }, { &at_40, 9500 }, { &at_100, 2500 }, { &at_40, 46000 } };
+    for (size_t i = 0; i < sizeof named / sizeof *named && i < wanted; i++) {
+        uint32_t x = named[i].viscosity - named[i].f->shift;
+        struct constant r = ask(named[i].f, named[i].viscosity, 8700);
+        if (compare_powers(x, r.lower) > 0 || compare_powers(x, r.upper) < 0)
+            fail("a fraction, by whole powers", NULL);
+    }
 }
 
 /* A row of another count answers 5 and keeps every number. It ends where the
@@ -275,9 +289,10 @@ static void random_constants(uint64_t wanted)
     }
 }
 
-void compare_constants(uint64_t wanted)
+void compare_constants(uint64_t wanted, uint64_t by_powers)
 {
     printed_constants();
+    by_whole_powers(by_powers);
     wrong_counts();
     edges_of_the_questions();
     thin_oils();
