@@ -1,7 +1,10 @@
-// All pairs and sheets of document 01's 'Pairs and sheets to try', through the public operations: each line names an example and what the document
-// says of it, and ends in "ok" where the operation answers just that, in "WRONG" where it does not.
+// All pairs and sheets of document 01's 'Pairs and sheets to try', and constants of change request #101 on both sides of each limit and at values worked
+// by hand, through the public operations: each line names an example and what the document says of it, and ends in "ok" where the operation answers
+// just that, in "WRONG" where it does not.
 ghost use Prim.Native.Nat.{_<_};
 ghost use Rattle.sheet.specs.Sheet.{headerSize};
+use gravity_constant::ConstantAnswer;
+use gravity_constant::Temperature;
 use index::Answer;
 use index::Mark;
 use libc::STDOUT_FILENO;
@@ -73,6 +76,22 @@ fn refused(u: u32, y: u32, number: u8) -> bool {
         Answer::A(_) => false,
         Answer::B(_) => false,
         Answer::Refused(by) => by == number,
+    }
+}
+
+// Is the constant answered, with that k in thousandths?
+fn constant_is(t: Temperature, viscosity: u32, density: u32, k: i32) -> bool {
+    match gravity_constant::answer_constant(t, viscosity, density) {
+        ConstantAnswer::Found(c) => c.thousandths == k,
+        ConstantAnswer::Refused(_) => false,
+    }
+}
+
+// Is the constant refused by that number?
+fn constant_refused(t: Temperature, viscosity: u32, density: u32, number: u8) -> bool {
+    match gravity_constant::answer_constant(t, viscosity, density) {
+        ConstantAnswer::Found(_) => false,
+        ConstantAnswer::Refused(by) => by == number,
     }
 }
 
@@ -153,9 +172,85 @@ fn sheets() {
     );
 }
 
+fn constants() {
+    told(
+        b"constant at 40, viscosity 9500, density 8700: 840",
+        constant_is(Temperature::At40, 9_500, 8_700, 840),
+    );
+    told(
+        b"constant at 40, viscosity 46000, density 8750: 815",
+        constant_is(Temperature::At40, 46_000, 8_750, 815),
+    );
+    told(
+        b"constant at 40, viscosity 6500, density 8600: 844",
+        constant_is(Temperature::At40, 6_500, 8_600, 844),
+    );
+    told(
+        b"constant at 40, viscosity 1000000000, density 5000: -905",
+        constant_is(Temperature::At40, 1_000_000_000, 5_000, -905),
+    );
+    told(
+        b"constant at 40, viscosity 5501, density 15000: 1405",
+        constant_is(Temperature::At40, 5_501, 15_000, 1_405),
+    );
+    told(
+        b"constant at 40, viscosity 1000000000, density 15000: 2592",
+        constant_is(Temperature::At40, 1_000_000_000, 15_000, 2_592),
+    );
+    told(
+        b"constant at 100, viscosity 2500, density 8700: 835",
+        constant_is(Temperature::At100, 2_500, 8_700, 835),
+    );
+    told(
+        b"constant at 100, viscosity 1800, density 9000: 880",
+        constant_is(Temperature::At100, 1_800, 9_000, 880),
+    );
+    told(
+        b"constant at 100, viscosity 801, density 5000: 645",
+        constant_is(Temperature::At100, 801, 5_000, 645),
+    );
+    told(
+        b"constant at 100, viscosity 500000, density 15000: 1650",
+        constant_is(Temperature::At100, 500_000, 15_000, 1_650),
+    );
+}
+
+fn refused_constants() {
+    told(
+        b"constant at 40, viscosity 5500, density 8700: refused 21",
+        constant_refused(Temperature::At40, 5_500, 8_700, 21),
+    );
+    told(
+        b"constant at 40, viscosity 1000000001, density 8700: refused 21",
+        constant_refused(Temperature::At40, 1_000_000_001, 8_700, 21),
+    );
+    told(
+        b"constant at 100, viscosity 800, density 8700: refused 21",
+        constant_refused(Temperature::At100, 800, 8_700, 21),
+    );
+    told(
+        b"constant at 100, viscosity 500001, density 8700: refused 21",
+        constant_refused(Temperature::At100, 500_001, 8_700, 21),
+    );
+    told(
+        b"constant at 40, viscosity 9500, density 4999: refused 22",
+        constant_refused(Temperature::At40, 9_500, 4_999, 22),
+    );
+    told(
+        b"constant at 40, viscosity 9500, density 15001: refused 22",
+        constant_refused(Temperature::At40, 9_500, 15_001, 22),
+    );
+    told(
+        b"constant at 40, viscosity 5500, density 4999: refused 21",
+        constant_refused(Temperature::At40, 5_500, 4_999, 21),
+    );
+}
+
 fn main() {
     l_and_h();
     answered_pairs();
     refused_pairs();
     sheets();
+    constants();
+    refused_constants();
 }

@@ -20,4 +20,8 @@ pub use answer::answer_with_tables;
 pub use logarithm::LOG_TABLE_SIZE;
 pub use logarithm::first_table;
 pub use logarithm::second_table;
+pub use questions::AskedDensity;
+pub use questions::AskedViscosity;
+pub use questions::Density;
 pub use questions::Temperature;
+pub use questions::Viscosity;
