@@ -160,7 +160,7 @@ def complaint_of_cell(what, formula, cell, oil, names):
 
 def complaints_of_tables(page):
     tables = TABLE.findall(page)
-    if len(tables) != 4:
+    if len(tables) != 6:
         yield f"{len(tables)} tables with formulas"
     for table in tables:
         head, _, *rows = map(cells, table.rstrip("\n").split("\n"))
