@@ -95,8 +95,10 @@ forced-limits =
       lightest = refl;
       heaviest = refl;
       too-heavy = refl;
-      both-low = refl;
-      both-high = refl;
+      low-and-light = refl;
+      low-and-heavy = refl;
+      high-and-light = refl;
+      high-and-heavy = refl;
     }
 
 -- ---- k, with N, D and the formula's sides A − B as plain numbers

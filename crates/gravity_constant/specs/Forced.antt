@@ -34,8 +34,10 @@ pub record ForcedLimits : Type 0 where
   pub heaviest : refusal At40 9500 15000 ≡ 0
   pub too-heavy : refusal At40 9500 15001 ≡ 22
   -- "asked in that order": both are outside
-  pub both-low : refusal At40 5500 4999 ≡ 21
-  pub both-high : refusal At100 500001 15001 ≡ 21
+  pub low-and-light : refusal At40 5500 4999 ≡ 21
+  pub low-and-heavy : refusal At40 5500 15001 ≡ 21
+  pub high-and-light : refusal At100 500001 4999 ≡ 21
+  pub high-and-heavy : refusal At100 500001 15001 ≡ 21
 
 -- the answer is a constant of k thousandths
 abbrev pub HasK : ConstantAnswer → ℤ → Type 0
