@@ -11,7 +11,7 @@
 #include <stdlib.h>
 #include <string.h>
 
-enum { LINE = 1024, ROW = 3 };
+enum { LINE = 1024 };
 
 /* A number of 32 bits, digits alone, up to a blank or the end; *at moves on past it and the blanks. */
 static int number(char **at, uint32_t *value)
@@ -33,12 +33,12 @@ static int oil_of(char *line, uint32_t *temperature, uint32_t *viscosity, uint32
 
 static void print_record(uint32_t temperature, uint32_t viscosity, uint32_t density)
 {
-    int32_t row[ROW];
+    int32_t row[VI_CONSTANT_SIZE];
     const uint32_t answer =
-        temperature == 40 ? vi_constant_40(viscosity, density, row, ROW) : vi_constant_100(viscosity, density, row, ROW);
+        temperature == 40 ? vi_constant_40(viscosity, density, row, VI_CONSTANT_SIZE) : vi_constant_100(viscosity, density, row, VI_CONSTANT_SIZE);
     printf("%u %u %u %u", (unsigned)temperature, (unsigned)viscosity, (unsigned)density, (unsigned)answer);
     if (answer == VI_ANSWERED)
-        printf(" %d %d %d", (int)row[0], (int)row[1], (int)row[2]);
+        printf(" %d %d %d", (int)row[VI_CONSTANT_K], (int)row[VI_CONSTANT_LOWER], (int)row[VI_CONSTANT_UPPER]);
     printf("\n");
 }
 

@@ -241,7 +241,7 @@ static void order(uint32_t y, uint32_t from, uint32_t stride)
 
 /* ---- constants ---- */
 
-enum { ROW = 3, BEFORE = 5, MOST_NUMBERS = 16, ROW_NOT_3 = 5, VISCOSITY_OUTSIDE = 21, DENSITY_OUTSIDE = 22, MOST_APART = 64 };
+enum { ROW = VI_CONSTANT_SIZE, BEFORE = 5, MOST_NUMBERS = 16, MOST_APART = 64 };
 typedef uint32_t constant_call(uint32_t viscosity, uint32_t density, int32_t *row, size_t count);
 
 /* numbers that end where the memory ends: a touch of what follows them ends the program */
@@ -268,9 +268,9 @@ static void constant_is(constant_call *call, uint32_t viscosity, uint32_t densit
         memcpy(as_before, numbers, size);
         const uint32_t got = call(viscosity, density, row, ROW);
         check(got == number, "the number of a constant", got, number);
-        if (number == 0) {
-            const int64_t apart = (int64_t)row[2] - row[1];
-            check(row[0] == k, "k", (unsigned long)row[0], (unsigned long)k);
+        if (number == VI_ANSWERED) {
+            const int64_t apart = (int64_t)row[VI_CONSTANT_UPPER] - row[VI_CONSTANT_LOWER];
+            check(row[VI_CONSTANT_K] == k, "k", (unsigned long)row[VI_CONSTANT_K], (unsigned long)k);
             check(apart >= 0 && apart <= MOST_APART, "the fractions of a constant", (unsigned long)apart, MOST_APART);
             memcpy(row, as_before + BEFORE, ROW * sizeof *row);
         }
@@ -280,44 +280,44 @@ static void constant_is(constant_call *call, uint32_t viscosity, uint32_t densit
 
 static void constants_at_40(void)
 {
-    constant_is(vi_constant_40, 9500, 8700, 0, 840);
-    constant_is(vi_constant_40, 46000, 8750, 0, 815);
-    constant_is(vi_constant_40, 6500, 8600, 0, 844);
-    constant_is(vi_constant_40, 1000000000, 5000, 0, -905);
-    constant_is(vi_constant_40, 1000000000, 15000, 0, 2592);
-    constant_is(vi_constant_40, 1000000000, 7588, 0, 0);
-    constant_is(vi_constant_40, 1000000001, 8700, VISCOSITY_OUTSIDE, 0);
-    constant_is(vi_constant_40, 5501, 5000, 0, 615);
-    constant_is(vi_constant_40, 5500, 5000, VISCOSITY_OUTSIDE, 0);
-    constant_is(vi_constant_40, 0, 8700, VISCOSITY_OUTSIDE, 0);
-    constant_is(vi_constant_40, UINT32_MAX, 8700, VISCOSITY_OUTSIDE, 0);
-    constant_is(vi_constant_40, 9500, 4999, DENSITY_OUTSIDE, 0);
-    constant_is(vi_constant_40, 9500, 5000, 0, 416);
-    constant_is(vi_constant_40, 9500, 15000, 0, 1560);
-    constant_is(vi_constant_40, 9500, 15001, DENSITY_OUTSIDE, 0);
-    constant_is(vi_constant_40, 9500, UINT32_MAX, DENSITY_OUTSIDE, 0);
+    constant_is(vi_constant_40, 9500, 8700, VI_ANSWERED, 840);
+    constant_is(vi_constant_40, 46000, 8750, VI_ANSWERED, 815);
+    constant_is(vi_constant_40, 6500, 8600, VI_ANSWERED, 844);
+    constant_is(vi_constant_40, 1000000000, 5000, VI_ANSWERED, -905);
+    constant_is(vi_constant_40, 1000000000, 15000, VI_ANSWERED, 2592);
+    constant_is(vi_constant_40, 1000000000, 7588, VI_ANSWERED, 0);
+    constant_is(vi_constant_40, 1000000001, 8700, VI_VISCOSITY_OUTSIDE, 0);
+    constant_is(vi_constant_40, 5501, 5000, VI_ANSWERED, 615);
+    constant_is(vi_constant_40, 5500, 5000, VI_VISCOSITY_OUTSIDE, 0);
+    constant_is(vi_constant_40, 0, 8700, VI_VISCOSITY_OUTSIDE, 0);
+    constant_is(vi_constant_40, UINT32_MAX, 8700, VI_VISCOSITY_OUTSIDE, 0);
+    constant_is(vi_constant_40, 9500, 4999, VI_DENSITY_OUTSIDE, 0);
+    constant_is(vi_constant_40, 9500, 5000, VI_ANSWERED, 416);
+    constant_is(vi_constant_40, 9500, 15000, VI_ANSWERED, 1560);
+    constant_is(vi_constant_40, 9500, 15001, VI_DENSITY_OUTSIDE, 0);
+    constant_is(vi_constant_40, 9500, UINT32_MAX, VI_DENSITY_OUTSIDE, 0);
     /* both questions fail: the first gives its number */
-    constant_is(vi_constant_40, 5500, 4999, VISCOSITY_OUTSIDE, 0);
-    constant_is(vi_constant_40, UINT32_MAX, UINT32_MAX, VISCOSITY_OUTSIDE, 0);
+    constant_is(vi_constant_40, 5500, 4999, VI_VISCOSITY_OUTSIDE, 0);
+    constant_is(vi_constant_40, UINT32_MAX, UINT32_MAX, VI_VISCOSITY_OUTSIDE, 0);
 }
 
 static void constants_at_100(void)
 {
-    constant_is(vi_constant_100, 2500, 8700, 0, 835);
-    constant_is(vi_constant_100, 1800, 9000, 0, 880);
-    constant_is(vi_constant_100, 801, 5000, 0, 645);
-    constant_is(vi_constant_100, 800, 5000, VISCOSITY_OUTSIDE, 0);
-    constant_is(vi_constant_100, 0, 8700, VISCOSITY_OUTSIDE, 0);
-    constant_is(vi_constant_100, 500000, 5000, 0, 84);
-    constant_is(vi_constant_100, 500000, 15000, 0, 1650);
-    constant_is(vi_constant_100, 500001, 8700, VISCOSITY_OUTSIDE, 0);
-    constant_is(vi_constant_100, UINT32_MAX, 8700, VISCOSITY_OUTSIDE, 0);
-    constant_is(vi_constant_100, 2500, 4999, DENSITY_OUTSIDE, 0);
-    constant_is(vi_constant_100, 2500, 5000, 0, 414);
-    constant_is(vi_constant_100, 2500, 15000, 0, 1553);
-    constant_is(vi_constant_100, 2500, 15001, DENSITY_OUTSIDE, 0);
-    constant_is(vi_constant_100, 500001, 15001, VISCOSITY_OUTSIDE, 0);
-    constant_is(vi_constant_100, 0, 0, VISCOSITY_OUTSIDE, 0);
+    constant_is(vi_constant_100, 2500, 8700, VI_ANSWERED, 835);
+    constant_is(vi_constant_100, 1800, 9000, VI_ANSWERED, 880);
+    constant_is(vi_constant_100, 801, 5000, VI_ANSWERED, 645);
+    constant_is(vi_constant_100, 800, 5000, VI_VISCOSITY_OUTSIDE, 0);
+    constant_is(vi_constant_100, 0, 8700, VI_VISCOSITY_OUTSIDE, 0);
+    constant_is(vi_constant_100, 500000, 5000, VI_ANSWERED, 84);
+    constant_is(vi_constant_100, 500000, 15000, VI_ANSWERED, 1650);
+    constant_is(vi_constant_100, 500001, 8700, VI_VISCOSITY_OUTSIDE, 0);
+    constant_is(vi_constant_100, UINT32_MAX, 8700, VI_VISCOSITY_OUTSIDE, 0);
+    constant_is(vi_constant_100, 2500, 4999, VI_DENSITY_OUTSIDE, 0);
+    constant_is(vi_constant_100, 2500, 5000, VI_ANSWERED, 414);
+    constant_is(vi_constant_100, 2500, 15000, VI_ANSWERED, 1553);
+    constant_is(vi_constant_100, 2500, 15001, VI_DENSITY_OUTSIDE, 0);
+    constant_is(vi_constant_100, 500001, 15001, VI_VISCOSITY_OUTSIDE, 0);
+    constant_is(vi_constant_100, 0, 0, VI_VISCOSITY_OUTSIDE, 0);
 }
 
 /* a row of any other count is left as it was, whatever is asked; one of no numbers may have no place */
@@ -331,10 +331,10 @@ static void row_counts(constant_call *call)
             fill((uint8_t *)row, count * sizeof *row);
             memcpy(as_before, row, count * sizeof *row);
             const uint32_t got = call(asked[i][0], asked[i][1], row, count);
-            check(got == ROW_NOT_3, "a row that is not 3 numbers", got, ROW_NOT_3);
+            check(got == VI_CONSTANT_NOT_3, "a row that is not 3 numbers", got, VI_CONSTANT_NOT_3);
             check(memcmp(row, as_before, count * sizeof *row) == 0, "a row that is not 3 numbers is kept", 1, 0);
         }
-    check(call(9500, 8700, NULL, 0) == ROW_NOT_3, "no row", 0, ROW_NOT_3);
+    check(call(9500, 8700, NULL, 0) == VI_CONSTANT_NOT_3, "no row", 0, VI_CONSTANT_NOT_3);
 }
 
 int main(void)
