@@ -1,10 +1,10 @@
 -- What any right answer is, from the request's words.
 use Prim.Native.Nat.{ℕ, suc, _+_, _*_, _-_, _≤_, _<_}
-use mathlib.Core.Path.{_≡_, refl, ap, ap₂, _∙_, subst, subst₂}
+use mathlib.Core.Path.{_≡_, refl, sym, ap, ap₂, _∙_, subst, subst₂}
 use mathlib.Core.Logic.{⊎-elim}
 use native.Mathlib.Omega.{arith}
-use native.Mathlib.Nat.{mul-le-mul-left, mul-le-mul-right}
-use lib.Dec.{T, ltb, leb, lit<}
+use native.Mathlib.Nat.{le-trans, mul-add, add-mul, mul-assoc, mul-le-mul-left, mul-le-mul-right}
+use lib.Dec.{T, ltb, leb, lit<, lit≤}
 use lib.Count.{leadingZeros}
 use lib.IntN.{ℤ, pos, negsuc, subℕ, _-ℤ_, _+ℤ_, _*ℤ_}
 use lib.Signed.{_≤ℤ_}
@@ -143,11 +143,46 @@ plain t d i j D A B f e n r =
     let m = le-sub (100000 * A) (100000 * B) ((100 * i + 51) * D) ((100 * j + 0) * D) (subst₂ _≤ℤ_ scaled upper (r .most)) in
     record { least = omega (arith, simp ring at l); most = omega (arith, simp ring at m) }
 
+-- ---- a straight line in n, between two n: it is under another where it is so at both
+
+line : (a b c d lo hi n : ℕ) → a + b * lo < c + d * lo → a + b * hi < c + d * hi → lo ≤ n → n ≤ hi → a + b * n < c + d * n
+line a b c d lo hi n at-lo at-hi l h =
+    by-order d b
+    (λ steeper. let m : d * (hi - n) ≤ b * (hi - n) = mul-le-mul-right (hi - n) (omega arith) in
+    let e : hi ≡ n + (hi - n) = omega arith in
+    omega (arith, m, at-hi, ap (λ (k : ℕ). b * k) e ∙ mul-add b n (hi - n), ap (λ (k : ℕ). d * k) e ∙ mul-add d n (hi - n)))
+    (λ flatter. let m : b * (n - lo) ≤ d * (n - lo) = mul-le-mul-right (n - lo) flatter in
+    let e : n ≡ lo + (n - lo) = omega arith in
+    omega (arith, m, at-lo, ap (λ (k : ℕ). b * k) e ∙ mul-add b lo (n - lo), ap (λ (k : ℕ). d * k) e ∙ mul-add d lo (n - lo)))
+
+-- the same with a divisor D = S − e·n on both sides
+module _ (a w u c x z S e : ℕ) where
+  abbrev Under : ℕ → Type 0
+  Under n = a + w * n + u * (S - e * n) < c + x * n + z * (S - e * n)
+
+  whole : (u n : ℕ) → e * n ≤ S → u * (S - e * n) + u * e * n ≡ u * S
+  whole u n h =
+      let p : S - e * n + e * n ≡ S = omega arith in
+      ap (λ (k : ℕ). u * (S - e * n) + k) (mul-assoc u e n) ∙ sym (mul-add u (S - e * n) (e * n)) ∙ ap (λ (k : ℕ). u * k) p
+
+  flat : (n : ℕ) → e * n ≤ S → Under n → a + u * S + (w + z * e) * n < c + z * S + (x + u * e) * n
+  flat n h l = omega (arith, l, whole u n h, whole z n h, add-mul w (z * e) n, add-mul x (u * e) n)
+
+  under : (lo hi n : ℕ) → e * hi ≤ S → Under lo → Under hi → lo ≤ n → n ≤ hi → Under n
+  under lo hi n few at-lo at-hi l h =
+      let m : e * n ≤ e * hi = mul-le-mul-left e h in
+      let k : e * lo ≤ e * hi = mul-le-mul-left e (le-trans l h) in
+      let r = line (a + u * S) (w + z * e) (c + z * S) (x + u * e) lo hi n (flat lo (le-trans k few) at-lo) (flat hi few at-hi) l h in
+      omega (arith, r, whole u n (le-trans m few), whole z n (le-trans m few), add-mul w (z * e) n, add-mul x (u * e) n)
+
 -- ---- at each oil: n lies from lo to hi, and there k is p − q
 
--- the divisor at n, and what is divided, A − B; all times Q
+-- what the divisor falls from, the divisor at n, and what is divided, A − B; all times Q
+abbrev start : Temperature → ℕ
+start t = (divisorStart t + 4 * divisorSlope t) * Q-number
+
 abbrev divisorAt : Temperature → ℕ → ℕ
-divisorAt t n = (divisorStart t + 4 * divisorSlope t) * Q-number - divisorSlope t * n
+divisorAt t n = start t - divisorSlope t * n
 
 abbrev A : Temperature → ℕ → ℕ
 A t d = d * Q-number + densitySlope t * from
@@ -155,44 +190,49 @@ A t d = d * Q-number + densitySlope t * from
 abbrev B : Temperature → ℕ → ℕ
 B t n = densityTaken t * Q-number + densitySlope t * n
 
--- what is computed for an oil; 10 times its argument is what `Between` speaks of
-record Computed (t : Temperature) (v d lo hi p q : ℕ) : Type 0 where
-  passed : refusal t v d ≡ 0
-  least : T (leb 1 (10 * argument t v))
-  most : T (ltb (10 * argument t v) (2 * unit))
-  high : (log2Of (10 * argument t v) + width) * Q-number < log10 * (hi + 1)
-  low : (log10 + 1) * (lo + 63) < log2Of (10 * argument t v) * Q-number
-  divides : (n : ℕ) → n ≤ hi → divisorSlope t * n < (divisorStart t + 4 * divisorSlope t) * Q-number
-  great : (n : ℕ) → lo ≤ n → n ≤ hi
-      → 100000 * A t d + 100 * (q * divisorAt t n) + 51 * divisorAt t n < 100000 * B t n + 100 * (p * divisorAt t n) + 100 * divisorAt t n
-  small : (n : ℕ) → lo ≤ n → n ≤ hi
-      → 100000 * B t n + 100 * (p * divisorAt t n) + 51 * divisorAt t n < 100000 * A t d + 100 * (q * divisorAt t n) + 100 * divisorAt t n
+-- at n, one more than p − q is above the formula by more than 0.51, and one less is below it
+abbrev Great : Temperature → ℕ → ℕ → ℕ → ℕ → Type 0
+Great t d p q = Under (100000 * A t d) 0 (100 * q + 51) (100000 * (densityTaken t * Q-number)) (100000 * densitySlope t) (100 * p + 100) (start t) (divisorSlope t)
 
-module _ (t : Temperature) (v d lo hi p q : ℕ) (o : Computed t v d lo hi p q) where
+abbrev Small : Temperature → ℕ → ℕ → ℕ → ℕ → Type 0
+Small t d p q = Under (100000 * (densityTaken t * Q-number)) (100000 * densitySlope t) (100 * p + 51) (100000 * A t d) 0 (100 * q + 100) (start t) (divisorSlope t)
+
+-- what is computed for an oil stands as premises; 10 times its argument is what `Between` speaks of
+module _ (t : Temperature) (v d lo hi p q : ℕ)
+    (passed : refusal t v d ≡ 0)
+    (some : T (leb 1 (10 * argument t v)))
+    (few : T (ltb (10 * argument t v) (2 * unit)))
+    (high : (log2Of (10 * argument t v) + width) * Q-number < log10 * (hi + 1))
+    (low : (log10 + 1) * (lo + 63) < log2Of (10 * argument t v) * Q-number)
+    (divides-there : divisorSlope t * hi ≤ start t)
+    (great-lo : Great t d p q lo) (great-hi : Great t d p q hi) (small-lo : Small t d p q lo) (small-hi : Small t d p q hi) where
   -- where the n of a lower fraction lies
   not-high : (lower upper : ℤ) (b : Between (argument t v) lower upper) → b .n ≤ hi
   not-high lower upper b =
       let x = 10 * argument t v in
       let h = logs-le scale (b .n) Q 10 1 1 x log10 0 0 (log2Of x + width) (ten .below) (one-below scale) (one-above scale)
-      (enclosed x (o .least) (o .most) .above) (rw (one-pow (b .n), one-pow Q) (omega (arith, b .below))) in
+      (enclosed x some few .above) (rw (one-pow (b .n), one-pow Q) (omega (arith, b .below))) in
       by-order hi (b .n)
-      (λ l. let m : log10 * (hi + 1) ≤ log10 * b .n = mul-le-mul-left log10 (omega arith) in absurd (omega (arith, rw Q-is at h, m, o .high)))
+      (λ l. let m : log10 * (hi + 1) ≤ log10 * b .n = mul-le-mul-left log10 (omega arith) in absurd (omega (arith, rw Q-is at h, m, high)))
       (λ l. l)
 
   not-low : (lower upper : ℤ) (b : Between (argument t v) lower upper) → lo ≤ b .n
   not-low lower upper b =
       let x = 10 * argument t v in
-      let h = logs-le scale (b .m) Q 1 x 10 1 0 (log2Of x) (log10 + 1) 0 (one-below scale) (enclosed x (o .least) (o .most) .below) (ten .above)
+      let h = logs-le scale (b .m) Q 1 x 10 1 0 (log2Of x) (log10 + 1) 0 (one-below scale) (enclosed x some few .below) (ten .above)
       (one-above scale) (rw (one-pow (b .m), one-pow Q) (omega (arith, b .above))) in
       by-order (b .n) lo
       (λ l. let m : (log10 + 1) * b .m ≤ (log10 + 1) * (lo + 63) = mul-le-mul-left (log10 + 1) (omega (arith, b .close)) in
-      absurd (omega (arith, rw Q-is at h, m, o .low)))
+      absurd (omega (arith, rw Q-is at h, m, low)))
       (λ l. l)
+
+  fits : (n : ℕ) → n ≤ hi → divisorSlope t * n ≤ start t
+  fits n h = le-trans (mul-le-mul-left (divisorSlope t) h) divides-there
 
   divisor-at : (n : ℕ) → n ≤ hi → divisor t (subℕ n from) ≡ pos (divisorAt t n)
   divisor-at n h =
       divisor-is (divisorStart t) Q (divisorSlope t) n from
-      ∙ sub-pos (divisorStart t * Q + divisorSlope t * from) (0 + divisorSlope t * n) (rw Q-is (omega (arith, o .divides n h)))
+      ∙ sub-pos (divisorStart t * Q + divisorSlope t * from) (0 + divisorSlope t * n) (rw Q-is (omega (arith, fits n h)))
       ∙ ap pos (rw Q-is (omega arith))
 
   numerator-at : (n : ℕ) → numerator t d (subℕ n from) ≡ subℕ (A t d) (B t n)
@@ -202,127 +242,32 @@ module _ (t : Temperature) (v d lo hi p q : ℕ) (o : Computed t v d lo hi p q) 
 
   k-is : (c : Constant) → RightFound t v d c → c .thousandths ≡ subℕ p q
   k-is c r =
-      let b = counted t v d (c .lower) (c .upper) (o .passed) (r .encloses) in
-      let low = not-low (c .lower) (c .upper) b in
-      let high = not-high (c .lower) (c .upper) b in
+      let b = counted t v d (c .lower) (c .upper) passed (r .encloses) in
+      let l = not-low (c .lower) (c .upper) b in
+      let h = not-high (c .lower) (c .upper) b in
       let k = difference (c .thousandths) in
-      let l = plain t d (k .i) (k .j) (divisorAt t (b .n)) (A t d) (B t (b .n)) (subℕ (b .n) from) (divisor-at (b .n) high) (numerator-at (b .n))
+      let r′ = plain t d (k .i) (k .j) (divisorAt t (b .n)) (A t d) (B t (b .n)) (subℕ (b .n) from) (divisor-at (b .n) h) (numerator-at (b .n))
       (subst₂ (Near t d) (k .is) (b .lower-is) (r .at-lower)) in
+      let great = under _ _ _ _ _ _ _ _ lo hi (b .n) divides-there great-lo great-hi l h in
+      let small = under _ _ _ _ _ _ _ _ lo hi (b .n) divides-there small-lo small-hi l h in
       k .is
-      ∙ only-one (k .i) (k .j) p q (divisorAt t (b .n)) (A t d) (B t (b .n)) (l .least) (l .most) (o .great (b .n) low high) (o .small (b .n) low high)
+      ∙ only-one (k .i) (k .j) p q (divisorAt t (b .n)) (A t d) (B t (b .n)) (r′ .least) (r′ .most) (omega (arith, simp ring at great)) (omega (arith, simp ring at small))
 
   only-k : (z : ℤ) → subℕ p q ≡ z → (a : ConstantAnswer) → RightConstant t v d a → HasK a z
-  only-k z e (Refused n) r = not-refused t v d n r (o .passed)
+  only-k z e (Refused n) r = not-refused t v d n r passed
   only-k z e (Found c) r = k-is c r ∙ e
 
--- ---- the oils
-
-light : Computed At40 9500 8700 77209654 77209774 840 0
-unfolding log2Of fractionOf mantissa zerosOf entryAt entryOf timesFactor levelLog levelRest tailOf restOf firstTable secondTable leadingZeros
-light =
-    record {
-      passed = refl;
-      least = tt;
-      most = tt;
-      high = lit< tt;
-      low = lit< tt;
-      divides = λ n h. omega arith;
-      great = λ n l h. omega arith;
-      small = λ n l h. omega arith;
-    }
-
-heavy : Computed At40 46000 8750 94077384 94077504 815 0
-unfolding log2Of fractionOf mantissa zerosOf entryAt entryOf timesFactor levelLog levelRest tailOf restOf firstTable secondTable leadingZeros
-heavy =
-    record {
-      passed = refl;
-      least = tt;
-      most = tt;
-      high = lit< tt;
-      low = lit< tt;
-      divides = λ n h. omega arith;
-      great = λ n l h. omega arith;
-      small = λ n l h. omega arith;
-    }
-
-zero-40 : Computed At40 6500 8600 67108764 67108884 844 0
-unfolding log2Of fractionOf mantissa zerosOf entryAt entryOf timesFactor levelLog levelRest tailOf restOf firstTable secondTable leadingZeros
-zero-40 =
-    record {
-      passed = refl;
-      least = tt;
-      most = tt;
-      high = lit< tt;
-      low = lit< tt;
-      divides = λ n h. omega arith;
-      great = λ n l h. omega arith;
-      small = λ n l h. omega arith;
-    }
-
-below-zero : Computed At40 1000000000 5000 167772019 167772139 0 905
-unfolding log2Of fractionOf mantissa zerosOf entryAt entryOf timesFactor levelLog levelRest tailOf restOf firstTable secondTable leadingZeros
-below-zero =
-    record {
-      passed = refl;
-      least = tt;
-      most = tt;
-      high = lit< tt;
-      low = lit< tt;
-      divides = λ n h. omega arith;
-      great = λ n l h. omega arith;
-      small = λ n l h. omega arith;
-    }
-
-light-100 : Computed At100 2500 8700 70975055 70975175 835 0
-unfolding log2Of fractionOf mantissa zerosOf entryAt entryOf timesFactor levelLog levelRest tailOf restOf firstTable secondTable leadingZeros
-light-100 =
-    record {
-      passed = refl;
-      least = tt;
-      most = tt;
-      high = lit< tt;
-      low = lit< tt;
-      divides = λ n h. omega arith;
-      great = λ n l h. omega arith;
-      small = λ n l h. omega arith;
-    }
-
-zero-100 : Computed At100 1800 9000 67108764 67108884 880 0
-unfolding log2Of fractionOf mantissa zerosOf entryAt entryOf timesFactor levelLog levelRest tailOf restOf firstTable secondTable leadingZeros
-zero-100 =
-    record {
-      passed = refl;
-      least = tt;
-      most = tt;
-      high = lit< tt;
-      low = lit< tt;
-      divides = λ n h. omega arith;
-      great = λ n l h. omega arith;
-      small = λ n l h. omega arith;
-    }
-
-least-100 : Computed At100 801 5000 16777116 16777236 645 0
-unfolding log2Of fractionOf mantissa zerosOf entryAt entryOf timesFactor levelLog levelRest tailOf restOf firstTable secondTable leadingZeros
-least-100 =
-    record {
-      passed = refl;
-      least = tt;
-      most = tt;
-      high = lit< tt;
-      low = lit< tt;
-      divides = λ n h. omega arith;
-      great = λ n l h. omega arith;
-      small = λ n l h. omega arith;
-    }
+-- ---- the oils, computed
 
 pub forced-constants : ForcedConstants
+unfolding log2Of fractionOf mantissa zerosOf entryAt entryOf timesFactor levelLog levelRest tailOf restOf firstTable secondTable leadingZeros
 forced-constants =
     record {
-      light = only-k At40 9500 8700 77209654 77209774 840 0 light (pos 840) refl;
-      heavy = only-k At40 46000 8750 94077384 94077504 815 0 heavy (pos 815) refl;
-      zero-40 = only-k At40 6500 8600 67108764 67108884 844 0 zero-40 (pos 844) refl;
-      below-zero = only-k At40 1000000000 5000 167772019 167772139 0 905 below-zero (negsuc 904) refl;
-      light-100 = only-k At100 2500 8700 70975055 70975175 835 0 light-100 (pos 835) refl;
-      zero-100 = only-k At100 1800 9000 67108764 67108884 880 0 zero-100 (pos 880) refl;
-      least-100 = only-k At100 801 5000 16777116 16777236 645 0 least-100 (pos 645) refl;
+      light = only-k At40 9500 8700 77209654 77209774 840 0 refl tt tt (lit< tt) (lit< tt) (lit≤ tt) (lit< tt) (lit< tt) (lit< tt) (lit< tt) (pos 840) refl;
+      heavy = only-k At40 46000 8750 94077384 94077504 815 0 refl tt tt (lit< tt) (lit< tt) (lit≤ tt) (lit< tt) (lit< tt) (lit< tt) (lit< tt) (pos 815) refl;
+      zero-40 = only-k At40 6500 8600 67108764 67108884 844 0 refl tt tt (lit< tt) (lit< tt) (lit≤ tt) (lit< tt) (lit< tt) (lit< tt) (lit< tt) (pos 844) refl;
+      below-zero = only-k At40 1000000000 5000 167772019 167772139 0 905 refl tt tt (lit< tt) (lit< tt) (lit≤ tt) (lit< tt) (lit< tt) (lit< tt) (lit< tt) (negsuc 904) refl;
+      light-100 = only-k At100 2500 8700 70975055 70975175 835 0 refl tt tt (lit< tt) (lit< tt) (lit≤ tt) (lit< tt) (lit< tt) (lit< tt) (lit< tt) (pos 835) refl;
+      zero-100 = only-k At100 1800 9000 67108764 67108884 880 0 refl tt tt (lit< tt) (lit< tt) (lit≤ tt) (lit< tt) (lit< tt) (lit< tt) (lit< tt) (pos 880) refl;
+      least-100 = only-k At100 801 5000 16777116 16777236 645 0 refl tt tt (lit< tt) (lit< tt) (lit≤ tt) (lit< tt) (lit< tt) (lit< tt) (lit< tt) (pos 645) refl;
     }
