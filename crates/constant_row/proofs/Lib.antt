@@ -1,2 +1,3 @@
 -- The laws of the row.
 pub mod Calls
+pub mod Forced

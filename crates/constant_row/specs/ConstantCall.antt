@@ -6,10 +6,12 @@ use mathlib.Core.Path.{_≡_}
 use mathlib.Core.Bool.{Bool, cond}
 use mathlib.Core.List.{List, [], _∷_}
 use lib.Dec.{eqb}
-use lib.IntN.{ℤ}
+use lib.IntN.{ℤ, pos}
+use lib.Signed.{_≤ℤ_}
 use lib.ListN.{length}
 use Rattle.laws.specs.Questions.{ask}
 use Rattle.gravity_constant.specs.declared.questions.Temperature.{Temperature}
+use Rattle.gravity_constant.specs.declared.questions.Temperature.the-variants.{At40}
 use Rattle.gravity_constant.specs.declared.answer.Constant.{Constant}
 use Rattle.gravity_constant.specs.declared.answer.ConstantAnswer.{ConstantAnswer}
 use Rattle.gravity_constant.specs.declared.answer.ConstantAnswer.the-variants.{Refused, Found}
@@ -55,7 +57,21 @@ pub record ConstantCall (t : Temperature) (v d : ℕ) (lent : List ℤ) (number 
   pub just-3 : length lent ≡ rowSize → Filled t v d lent number after
   pub not-3 : (length lent ≡ rowSize → ⊥) → (number ≡ notARow) × (after ≡ lent)
 
--- "(no: 5, row untouched)": a row of no numbers, whatever is asked
+-- document 01's "(no: 5, record untouched)", of a row: one of no numbers, whatever is asked
 pub record NoRow : Type 0 where
   pub number : (t : Temperature) (v d : ℕ) → rowNumber [] t v d ≡ 5
   pub untouched : (t : Temperature) (v d : ℕ) → rowAfter [] t v d ≡ []
+
+-- where the three numbers stand, by an oil whose k is forced and whose logarithm is 0 (V 6.5 and G 0.86, 844.255 thousandths): k, then a numerator that is
+-- not above zero, then one that is not below
+abbrev pub RowAtZero : List ℤ → Type 0
+RowAtZero [] = ⊥
+RowAtZero (k ∷ []) = ⊥
+RowAtZero (k ∷ lower ∷ []) = ⊥
+RowAtZero (k ∷ lower ∷ upper ∷ []) = (k ≡ pos 844) × (lower ≤ℤ pos 0) × (pos 0 ≤ℤ upper)
+RowAtZero (k ∷ lower ∷ upper ∷ more ∷ rest) = ⊥
+
+-- what `ConstantCall` forces of any call with a row of three numbers: of that oil, and of one that is refused, "with the number alone as the answer"
+pub record ForcedRow : Type 0 where
+  pub filled : (lent after : List ℤ) (number : ℕ) → length lent ≡ 3 → ConstantCall At40 6500 8600 lent number after → (number ≡ 0) × RowAtZero after
+  pub refused : (lent after : List ℤ) (number : ℕ) → length lent ≡ 3 → ConstantCall At40 5500 8600 lent number after → (number ≡ 21) × (after ≡ lent)

@@ -1,5 +1,5 @@
 // The answer to the viscosity-gravity constant as C has it: a number, and a lent row of three numbers with sign for k and the numerators of the two
-// fractions.
+// fractions. A crate of its own below the C calls, so that its must-fail edits do not prove the pair and the sheet again.
 ghost use mathlib.Core.Path.{_≡_};
 ghost use lib.ListN.{length};
 ghost use Rattle.constant_row.specs.ConstantCall.{rowSize, rowOf, rowNumber, rowAfter, ConstantCall};
@@ -19,7 +19,7 @@ const UPPER_AT: usize = 2;
 // What is answered where the lent row is not just three numbers.
 const NOT_A_ROW: u32 = 5;
 
-// The number of an answered question.
+// What is answered where no question refuses.
 const ANSWERED: u32 = 0;
 
 // Stores a constant in a row.

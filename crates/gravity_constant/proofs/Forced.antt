@@ -1,15 +1,15 @@
 -- What any right answer is, from the request's words.
-use Prim.Native.Nat.{ℕ, suc, _+_, _*_, _-_, _≤_, _<_}
-use mathlib.Core.Path.{_≡_, refl, sym, ap, ap₂, _∙_, subst, subst₂}
+use Prim.Native.Nat.{ℕ, _+_, _*_, _-_, _≤_, _<_}
+use mathlib.Core.Path.{_≡_, refl, sym, ap, _∙_, subst, subst₂}
 use mathlib.Core.Logic.{⊎-elim}
 use native.Mathlib.Omega.{arith}
 use native.Mathlib.Nat.{le-trans, mul-add, add-mul, mul-assoc, mul-le-mul-left, mul-le-mul-right}
-use lib.Dec.{T, ltb, leb, lit<, lit≤}
+use lib.Dec.{T, ltb, leb, leb→le, lit<, lit≤}
 use lib.Count.{leadingZeros}
-use lib.IntN.{ℤ, pos, negsuc, subℕ, _-ℤ_, _+ℤ_, _*ℤ_}
+use lib.IntN.{ℤ, pos, negsuc, subℕ}
 use lib.Signed.{_≤ℤ_}
 use Rattle.laws.proofs.Contradiction.{not-some}
-use Rattle.laws.proofs.Difference.{sub-pos, sub-same, pos-is, times-sub, le-sub}
+use Rattle.laws.proofs.Difference.{difference, sub-same, sub-le}
 use Rattle.laws.proofs.Order.{by-order}
 use Rattle.laws.proofs.Powers.{ring, one-pow}
 use Rattle.logarithm.specs.Scale.{scale, width, unit, log10}
@@ -25,14 +25,15 @@ use Rattle.gravity_constant.specs.declared.answer.Constant.{Constant}
 use Rattle.gravity_constant.specs.declared.answer.ConstantAnswer.{ConstantAnswer}
 use Rattle.gravity_constant.specs.declared.answer.ConstantAnswer.the-variants.{Refused, Found}
 use Rattle.gravity_constant.specs.Questions.{refusal}
-use Rattle.gravity_constant.specs.Formula.{densityTaken, densitySlope, divisorStart, divisorSlope, argument, numerator, divisor}
-use Rattle.gravity_constant.specs.Answer.{numberOf, Encloses, Near, NoDivisor, RightFound, RightConstant}
+use Rattle.gravity_constant.specs.Formula.{densityTaken, dividedSlope, divisorSlope, argument, divisor}
+use Rattle.gravity_constant.specs.Answer.{numberOf, Encloses, Fits, NoDivisor, RightFound, RightConstant}
 use Rattle.gravity_constant.specs.Chosen.{digits}
-use Rattle.gravity_constant.specs.Forced.{ForcedNumbers, ForcedLimits, HasK, ForcedConstants}
+use Rattle.gravity_constant.specs.Preconditions.{leastDivisor}
+use Rattle.gravity_constant.specs.Forced.{ForcedNumbers, ForcedLimits, HasK, ForcedConstants, ForcedFractions}
 use Rattle.gravity_constant.proofs.QuestionOrder.{passes}
 use Rattle.gravity_constant.proofs.Enclosure.{argument-least, argument-most}
-use Rattle.gravity_constant.proofs.Near.{numerator-is, divisor-is, least-is, most-is}
-use Rattle.gravity_constant.proofs.AnyFractions.{from, negsuc-is, Between, between, most}
+use Rattle.gravity_constant.proofs.WholeNumbers.{divisorTop, D, A, B, divisor-is, numerator-is, plain}
+use Rattle.gravity_constant.proofs.AnyFractions.{decades, from, Between, between, most, not-above-zero, not-below-zero}
 
 -- ---- the number
 
@@ -42,12 +43,15 @@ counted t v d lower upper z e =
     between (argument t v) lower upper (argument-least t v (passes t v d z .least)) (e .below) (e .above) (e .close)
 
 -- the divisor is above zero at every n that is not too great
+few-enough : (t : Temperature) (n : ℕ) → n ≤ (digits t + 1) * Q-number + 64 → leastDivisor * Q-number + divisorSlope t * n ≤ divisorTop t decades
+few-enough At40 n h = omega arith
+few-enough At100 n h = omega arith
+
 divides : (t : Temperature) (n : ℕ) → n ≤ (digits t + 1) * Q-number + 64 → divisor t (subℕ n from) ≤ℤ pos 0 → ⊥
-divides t n h l = go t h (le-sub (divisorStart t * Q + divisorSlope t * from) (0 + divisorSlope t * n) 0 0 (subst (λ (z : ℤ). z ≤ℤ pos 0) (divisor-is (divisorStart t) Q (divisorSlope t) n from) l))
-  where
-    go : (t : Temperature) → n ≤ (digits t + 1) * Q-number + 64 → divisorStart t * Q + divisorSlope t * from + 0 ≤ 0 + (0 + divisorSlope t * n) → ⊥
-    go At40 h l = omega (arith, Q-is)
-    go At100 h l = omega (arith, Q-is)
+divides t n h l =
+    let f = few-enough t n h in
+    let p : pos (D t decades n) ≤ℤ pos 0 = subst (λ (z : ℤ). z ≤ℤ pos 0) (divisor-is t decades n (omega (arith, f))) l in
+    omega (arith, f, leb→le (D t decades n) 0 (p .le))
 
 no-23 : (t : Temperature) (v d : ℕ) → refusal t v d ≡ 0 → NoDivisor t v → ⊥
 no-23 t v d z r =
@@ -103,16 +107,6 @@ forced-limits =
 
 -- ---- k, with N, D and the formula's sides A − B as plain numbers
 
--- every number is a difference
-record Difference (z : ℤ) : Type 0 where
-  i : ℕ
-  j : ℕ
-  is : z ≡ subℕ i j
-
-difference : (z : ℤ) → Difference z
-difference (pos n) = record { i = n; j = 0; is = pos-is n }
-difference (negsuc n) = record { i = 0; j = suc n; is = negsuc-is n }
-
 -- i − j is p − q: one more would be above the formula by more than 0.51, and one less below it
 only-one : (i j p q D A B : ℕ) → 100 * (i * D) + 100000 * B ≤ 100000 * A + 100 * (j * D) + 51 * D
     → 100000 * A + 100 * (j * D) ≤ 100000 * B + 100 * (i * D) + 51 * D
@@ -128,20 +122,6 @@ only-one i j p q D A B least most great small =
     (λ k. let m : (i + q + 1) * D ≤ (p + j) * D = mul-le-mul-right D (omega arith) in
     absurd (omega (arith, simp ring at m, most, small)))
     (λ k. omega arith)))
-
--- what `Near` says of whole numbers
-record Plain (i j D A B : ℕ) : Type 0 where
-  least : 100 * (i * D) + 100000 * B ≤ 100000 * A + 100 * (j * D) + 51 * D
-  most : 100000 * A + 100 * (j * D) ≤ 100000 * B + 100 * (i * D) + 51 * D
-
-plain : (t : Temperature) (d i j D A B : ℕ) (f : ℤ) → divisor t f ≡ pos D → numerator t d f ≡ subℕ A B → Near t d (subℕ i j) f → Plain i j D A B
-plain t d i j D A B f e n r =
-    let scaled = ap (λ (z : ℤ). pos 100000 *ℤ z) n ∙ times-sub 100000 A B in
-    let lower = ap (λ (z : ℤ). (pos 100 *ℤ subℕ i j -ℤ pos 51) *ℤ z) e ∙ least-is i j D in
-    let upper = ap (λ (z : ℤ). (pos 100 *ℤ subℕ i j +ℤ pos 51) *ℤ z) e ∙ most-is i j D in
-    let l = le-sub ((100 * i + 0) * D) ((100 * j + 51) * D) (100000 * A) (100000 * B) (subst₂ _≤ℤ_ lower scaled (r .least)) in
-    let m = le-sub (100000 * A) (100000 * B) ((100 * i + 51) * D) ((100 * j + 0) * D) (subst₂ _≤ℤ_ scaled upper (r .most)) in
-    record { least = omega (arith, simp ring at l); most = omega (arith, simp ring at m) }
 
 -- ---- a straight line in n, between two n: it is under another where it is so at both
 
@@ -177,25 +157,12 @@ module _ (a w u c x z S e : ℕ) where
 
 -- ---- at each oil: n lies from lo to hi, and there k is p − q
 
--- what the divisor falls from, the divisor at n, and what is divided, A − B; all times Q
-abbrev start : Temperature → ℕ
-start t = (divisorStart t + 4 * divisorSlope t) * Q-number
-
-abbrev divisorAt : Temperature → ℕ → ℕ
-divisorAt t n = start t - divisorSlope t * n
-
-abbrev A : Temperature → ℕ → ℕ
-A t d = d * Q-number + densitySlope t * from
-
-abbrev B : Temperature → ℕ → ℕ
-B t n = densityTaken t * Q-number + densitySlope t * n
-
 -- at n, one more than p − q is above the formula by more than 0.51, and one less is below it
 abbrev Great : Temperature → ℕ → ℕ → ℕ → ℕ → Type 0
-Great t d p q = Under (100000 * A t d) 0 (100 * q + 51) (100000 * (densityTaken t * Q-number)) (100000 * densitySlope t) (100 * p + 100) (start t) (divisorSlope t)
+Great t d p q = Under (100000 * A t decades d) 0 (100 * q + 51) (100000 * (densityTaken t * Q-number)) (100000 * dividedSlope t) (100 * p + 100) (divisorTop t decades) (divisorSlope t)
 
 abbrev Small : Temperature → ℕ → ℕ → ℕ → ℕ → Type 0
-Small t d p q = Under (100000 * (densityTaken t * Q-number)) (100000 * densitySlope t) (100 * p + 51) (100000 * A t d) 0 (100 * q + 100) (start t) (divisorSlope t)
+Small t d p q = Under (100000 * (densityTaken t * Q-number)) (100000 * dividedSlope t) (100 * p + 51) (100000 * A t decades d) 0 (100 * q + 100) (divisorTop t decades) (divisorSlope t)
 
 -- what is computed for an oil stands as premises; 10 times its argument is what `Between` speaks of
 module _ (t : Temperature) (v d lo hi p q : ℕ)
@@ -204,7 +171,7 @@ module _ (t : Temperature) (v d lo hi p q : ℕ)
     (few : T (ltb (10 * argument t v) (2 * unit)))
     (high : (log2Of (10 * argument t v) + width) * Q-number < log10 * (hi + 1))
     (low : (log10 + 1) * (lo + 63) < log2Of (10 * argument t v) * Q-number)
-    (divides-there : divisorSlope t * hi ≤ start t)
+    (divides-there : divisorSlope t * hi ≤ divisorTop t decades)
     (great-lo : Great t d p q lo) (great-hi : Great t d p q hi) (small-lo : Small t d p q lo) (small-hi : Small t d p q hi) where
   -- where the n of a lower fraction lies
   not-high : (lower upper : ℤ) (b : Between (argument t v) lower upper) → b .n ≤ hi
@@ -226,19 +193,8 @@ module _ (t : Temperature) (v d lo hi p q : ℕ)
       absurd (omega (arith, rw Q-is at h, m, low)))
       (λ l. l)
 
-  fits : (n : ℕ) → n ≤ hi → divisorSlope t * n ≤ start t
-  fits n h = le-trans (mul-le-mul-left (divisorSlope t) h) divides-there
-
-  divisor-at : (n : ℕ) → n ≤ hi → divisor t (subℕ n from) ≡ pos (divisorAt t n)
-  divisor-at n h =
-      divisor-is (divisorStart t) Q (divisorSlope t) n from
-      ∙ sub-pos (divisorStart t * Q + divisorSlope t * from) (0 + divisorSlope t * n) (rw Q-is (omega (arith, fits n h)))
-      ∙ ap pos (rw Q-is (omega arith))
-
-  numerator-at : (n : ℕ) → numerator t d (subℕ n from) ≡ subℕ (A t d) (B t n)
-  numerator-at n =
-      numerator-is d (densityTaken t) Q (densitySlope t) n from
-      ∙ ap₂ subℕ (ap (λ (k : ℕ). d * k + densitySlope t * from) Q-is) (ap (λ (k : ℕ). densityTaken t * k + densitySlope t * n) Q-is)
+  fits-there : (n : ℕ) → n ≤ hi → divisorSlope t * n ≤ divisorTop t decades
+  fits-there n h = le-trans (mul-le-mul-left (divisorSlope t) h) divides-there
 
   k-is : (c : Constant) → RightFound t v d c → c .thousandths ≡ subℕ p q
   k-is c r =
@@ -246,12 +202,12 @@ module _ (t : Temperature) (v d lo hi p q : ℕ)
       let l = not-low (c .lower) (c .upper) b in
       let h = not-high (c .lower) (c .upper) b in
       let k = difference (c .thousandths) in
-      let r′ = plain t d (k .i) (k .j) (divisorAt t (b .n)) (A t d) (B t (b .n)) (subℕ (b .n) from) (divisor-at (b .n) h) (numerator-at (b .n))
-      (subst₂ (Near t d) (k .is) (b .lower-is) (r .at-lower)) in
+      let r′ = plain t d (k .i) (k .j) (D t decades (b .n)) (A t decades d) (B t (b .n)) (subℕ (b .n) from) (divisor-is t decades (b .n) (fits-there (b .n) h)) (numerator-is t decades (b .n) d)
+      (subst₂ (Fits t d) (k .is) (b .lower-is) (r .at-lower)) in
       let great = under _ _ _ _ _ _ _ _ lo hi (b .n) divides-there great-lo great-hi l h in
       let small = under _ _ _ _ _ _ _ _ lo hi (b .n) divides-there small-lo small-hi l h in
       k .is
-      ∙ only-one (k .i) (k .j) p q (divisorAt t (b .n)) (A t d) (B t (b .n)) (r′ .least) (r′ .most) (omega (arith, simp ring at great)) (omega (arith, simp ring at small))
+      ∙ only-one (k .i) (k .j) p q (D t decades (b .n)) (A t decades d) (B t (b .n)) (r′ .least) (r′ .most) (omega (arith, simp ring at great)) (omega (arith, simp ring at small))
 
   only-k : (z : ℤ) → subℕ p q ≡ z → (a : ConstantAnswer) → RightConstant t v d a → HasK a z
   only-k z e (Refused n) r = not-refused t v d n r passed
@@ -267,7 +223,28 @@ forced-constants =
       heavy = only-k At40 46000 8750 94077384 94077504 815 0 refl tt tt (lit< tt) (lit< tt) (lit≤ tt) (lit< tt) (lit< tt) (lit< tt) (lit< tt) (pos 815) refl;
       zero-40 = only-k At40 6500 8600 67108764 67108884 844 0 refl tt tt (lit< tt) (lit< tt) (lit≤ tt) (lit< tt) (lit< tt) (lit< tt) (lit< tt) (pos 844) refl;
       below-zero = only-k At40 1000000000 5000 167772019 167772139 0 905 refl tt tt (lit< tt) (lit< tt) (lit≤ tt) (lit< tt) (lit< tt) (lit< tt) (lit< tt) (negsuc 904) refl;
+      below-half-40 = only-k At40 5501 8750 16777116 16777236 911 0 refl tt tt (lit< tt) (lit< tt) (lit≤ tt) (lit< tt) (lit< tt) (lit< tt) (lit< tt) (pos 911) refl;
+      above-half-40 = only-k At40 5501 8650 16777116 16777236 904 0 refl tt tt (lit< tt) (lit< tt) (lit≤ tt) (lit< tt) (lit< tt) (lit< tt) (lit< tt) (pos 904) refl;
       light-100 = only-k At100 2500 8700 70975055 70975175 835 0 refl tt tt (lit< tt) (lit< tt) (lit≤ tt) (lit< tt) (lit< tt) (lit< tt) (lit< tt) (pos 835) refl;
       zero-100 = only-k At100 1800 9000 67108764 67108884 880 0 refl tt tt (lit< tt) (lit< tt) (lit≤ tt) (lit< tt) (lit< tt) (lit< tt) (lit< tt) (pos 880) refl;
-      least-100 = only-k At100 801 5000 16777116 16777236 645 0 refl tt tt (lit< tt) (lit< tt) (lit≤ tt) (lit< tt) (lit< tt) (lit< tt) (lit< tt) (pos 645) refl;
+      below-half-100 = only-k At100 801 8540 16777116 16777236 942 0 refl tt tt (lit< tt) (lit< tt) (lit≤ tt) (lit< tt) (lit< tt) (lit< tt) (lit< tt) (pos 942) refl;
+      above-half-100 = only-k At100 801 8600 16777116 16777236 948 0 refl tt tt (lit< tt) (lit< tt) (lit≤ tt) (lit< tt) (lit< tt) (lit< tt) (lit< tt) (pos 948) refl;
     }
+
+-- ---- the fractions
+
+-- a number that is counted from −4 is at most −m
+below-minus : (z : ℤ) (n m : ℕ) → z ≡ subℕ n from → n + m ≤ from → z ≤ℤ subℕ 0 m
+below-minus z n m e h = subst (λ (y : ℤ). y ≤ℤ subℕ 0 m) (sym e) (sub-le n from 0 m (omega (arith, h)))
+
+pub forced-fractions : ForcedFractions
+forced-fractions = record { at-zero = zero; below-zero = below }
+  where
+    zero : (c : Constant) → RightFound At40 6500 8600 c → (c .lower ≤ℤ pos 0) × (pos 0 ≤ℤ c .upper)
+    zero c r = (not-above-zero (c .lower) (r .encloses .below), not-below-zero (c .upper) (r .encloses .above))
+
+    below : (c : Constant) → RightFound At100 801 8540 c → (c .lower ≤ℤ negsuc 50331647) × (c .upper ≤ℤ negsuc 50331583)
+    below c r =
+        let b = counted At100 801 8540 (c .lower) (c .upper) refl (r .encloses) in
+        let m = most 1 0 (c .lower) (c .upper) (omega arith) b in
+        (below-minus (c .lower) (b .n) 50331648 (b .lower-is) (omega (arith, m .0)), below-minus (c .upper) (b .m) 50331584 (b .upper-is) (omega (arith, m .1)))

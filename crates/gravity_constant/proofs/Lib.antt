@@ -3,7 +3,8 @@ pub mod QuestionOrder
 pub mod Asked
 pub mod Cases
 pub mod Enclosure
-pub mod Near
+pub mod WholeNumbers
+pub mod Fits
 pub mod Right
 pub mod AnyFractions
 pub mod Forced

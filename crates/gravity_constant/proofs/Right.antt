@@ -14,7 +14,7 @@ use Rattle.gravity_constant.specs.Preconditions.{Passes}
 use Rattle.gravity_constant.proofs.QuestionOrder.{by-questions, none-refuses}
 use Rattle.gravity_constant.proofs.Cases as cases
 use Rattle.gravity_constant.proofs.Enclosure.{encloses, lower-few}
-use Rattle.gravity_constant.proofs.Near.{InFormula, in-formula, near-lower, near-upper}
+use Rattle.gravity_constant.proofs.Fits.{InFormula, in-formula, fits-lower, fits-upper}
 
 -- question 23 does not refuse: the divisor is above zero at both fractions
 divides : (t : Temperature) (d n : ℕ) → InFormula t d n → dividesAt t n ≡ true
@@ -36,8 +36,8 @@ module _ (t : Temperature) (v d : ℕ) (a : Passes t v d) where
       record {
         passes = none-refuses t v d a;
         encloses = encloses t v (a .least) (a .most);
-        at-lower = near-lower t d (lowerOf t v) at-lower;
-        at-upper = near-upper t d (lowerOf t v) at-lower at-upper;
+        at-lower = fits-lower t d (lowerOf t v) at-lower;
+        at-upper = fits-upper t d (lowerOf t v) at-lower at-upper;
       }
 
 pub right : (t : Temperature) (v d : ℕ) → RightConstant t v d (answerOf t v d)

@@ -20,7 +20,8 @@ abbrev pub numberOf : ConstantAnswer → ℕ
 numberOf (Refused number) = number
 numberOf (Found c) = 0
 
--- two numerators over Q that serve for v: they enclose the logarithm of x thousandths, x / 1000 in mm²/s, by whole powers, and are at most 64 apart
+-- two numerators over Q that serve for v: with x the thousandths of a mm²/s that the logarithm is taken of, they enclose that of x / 1000 by whole powers,
+-- and are at most 64 apart. (`order` is no word of the request; it follows from `below` and `above`)
 pub record Encloses (t : Temperature) (v : ℕ) (lower upper : ℤ) : Type 0 where
   pub below : AtOrBelowLog (argument t v) 1000 lower
   pub above : AtOrAboveLog (argument t v) 1000 upper
@@ -29,7 +30,7 @@ pub record Encloses (t : Temperature) (v : ℕ) (lower upper : ℤ) : Type 0 whe
 
 -- at the fraction f / Q the formula lies from k − 0.51 to k + 0.51 thousandths: k − 0.51 ≤ 1000 · numerator / divisor ≤ k + 0.51, times 100 and
 -- times the divisor, which is above zero
-pub record Near (t : Temperature) (d : ℕ) (k f : ℤ) : Type 0 where
+pub record Fits (t : Temperature) (d : ℕ) (k f : ℤ) : Type 0 where
   pub divides : pos 0 <ℤ divisor t f
   pub least : ((pos 100 *ℤ k -ℤ pos 51) *ℤ divisor t f) ≤ℤ (pos 100000 *ℤ numerator t d f)
   pub most : (pos 100000 *ℤ numerator t d f) ≤ℤ ((pos 100 *ℤ k +ℤ pos 51) *ℤ divisor t f)
@@ -46,12 +47,12 @@ abbrev pub RightNumber : Temperature → ℕ → ℕ → ℕ → Type 0
 RightNumber t v d number =
     ((0 < number) × (number ≡ refusal t v d)) ⊎ ((number ≡ 23) × (refusal t v d ≡ 0) × NoDivisor t v)
 
--- a constant: the limits do not refuse, the fractions enclose the logarithm, and k is near the formula at both
+-- a constant: the limits do not refuse, the fractions enclose the logarithm, and k fits the formula at both
 pub record RightFound (t : Temperature) (v d : ℕ) (c : Constant) : Type 0 where
   pub passes : refusal t v d ≡ 0
   pub encloses : Encloses t v (c .lower) (c .upper)
-  pub at-lower : Near t d (c .thousandths) (c .lower)
-  pub at-upper : Near t d (c .thousandths) (c .upper)
+  pub at-lower : Fits t d (c .thousandths) (c .lower)
+  pub at-upper : Fits t d (c .thousandths) (c .upper)
 
 abbrev pub RightConstant : Temperature → ℕ → ℕ → ConstantAnswer → Type 0
 RightConstant t v d (Refused number) = RightNumber t v d number

@@ -2,9 +2,9 @@
 -- follow the code. What #101 says of an answer stands in Answer.antt and is shown of every input (proofs/Right.antt), so that nobody has to believe
 -- this file.
 --
--- All is whole numbers from 0 up: n = f + 3·Q stands in the place of the numerator f, so that n / Q is at or below the logarithm of x, which is at least
--- 1; and the constant is counted from −1000 thousandths, below its least value −905, so that what is divided and the divisor together stand in the
--- place of what is divided.
+-- All is whole numbers from 0 up: n = f + 3·Q stands in the place of the numerator f, so that n / Q is at or below the logarithm of the number x of
+-- thousandths, which is not below 0; and the constant is counted from −1000 thousandths, below its least value −905, so that what is divided and the
+-- divisor together stand in the place of what is divided.
 use Prim.Native.Nat.{ℕ, _+_, _*_, _-_, _/_}
 use mathlib.Core.Bool.{Bool, cond, _&&_}
 use lib.Dec.{ltb, eqb}
@@ -18,11 +18,11 @@ use Rattle.gravity_constant.specs.declared.answer.Constant.{Constant}
 use Rattle.gravity_constant.specs.declared.answer.ConstantAnswer.{ConstantAnswer}
 use Rattle.gravity_constant.specs.declared.answer.ConstantAnswer.the-variants.{Refused, Found}
 use Rattle.gravity_constant.specs.Questions.{refusal}
-use Rattle.gravity_constant.specs.Formula.{densityTaken, densitySlope, divisorStart, divisorSlope, argument}
+use Rattle.gravity_constant.specs.Formula.{densityTaken, dividedSlope, divisorStart, divisorSlope, argument}
 
 -- ---- the fractions
 
--- a quarter of Q, and of the logarithm of 10 rounded up: so the product of the first and a logarithm fits 64 bits
+-- a quarter of Q, and of the logarithm of 10 rounded up, both whole: so the product of the first and a logarithm fits 64 bits
 abbrev pub quarterQ : ℕ
 quarterQ = Q-number / 4
 
@@ -67,7 +67,7 @@ divisorAt t n = lessLogarithm (divisorStart t) (divisorSlope t) n
 
 -- what is divided and the divisor together
 abbrev pub sumAt : Temperature → ℕ → ℕ → ℕ
-sumAt t d n = lessLogarithm (d + divisorStart t - densityTaken t) (densitySlope t + divisorSlope t) n
+sumAt t d n = lessLogarithm (d + divisorStart t - densityTaken t) (dividedSlope t + divisorSlope t) n
 
 -- how many thousandths 1 has
 abbrev pub thousandths : ℕ

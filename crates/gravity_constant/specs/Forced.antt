@@ -1,14 +1,16 @@
--- What #101's words force, from `RightConstant` alone, with no program in it: a program that answers otherwise is refuted, whatever proof is offered for it.
--- proofs/Forced.antt shows it.
+-- What #101's words force, from `refusal` and `RightConstant` alone, with no program in it: a program that answers otherwise is refuted, whatever proof is
+-- offered for it. proofs/Forced.antt shows it.
 use Prim.Native.Nat.{ℕ, _<_}
 use mathlib.Core.Path.{_≡_}
 use lib.IntN.{ℤ, pos, negsuc}
+use lib.Signed.{_≤ℤ_}
 use Rattle.gravity_constant.specs.declared.questions.Temperature.{Temperature}
 use Rattle.gravity_constant.specs.declared.questions.Temperature.the-variants.{At40, At100}
+use Rattle.gravity_constant.specs.declared.answer.Constant.{Constant}
 use Rattle.gravity_constant.specs.declared.answer.ConstantAnswer.{ConstantAnswer}
 use Rattle.gravity_constant.specs.declared.answer.ConstantAnswer.the-variants.{Refused, Found}
 use Rattle.gravity_constant.specs.Questions.{refusal}
-use Rattle.gravity_constant.specs.Answer.{numberOf, RightConstant}
+use Rattle.gravity_constant.specs.Answer.{numberOf, RightFound, RightConstant}
 
 -- the number is forced: the answer to an oil that question 21 or 22 refuses is that number alone, and any other oil is answered by a constant. So no right
 -- answer is 23, whichever fractions it is asked of
@@ -44,7 +46,7 @@ abbrev pub HasK : ConstantAnswer → ℤ → Type 0
 HasK (Refused number) k = ⊥
 HasK (Found c) k = c .thousandths ≡ k
 
--- k is forced at these: of the values that formulas 1 and 2 have by hand, none is so near to a half that two k would be right
+-- k is forced at these: none of the values that formulas 1 and 2 have by hand is so close to a half that two k would fit
 pub record ForcedConstants : Type 0 where
   -- at 40 °C: V 9.5 and G 0.87, 839.596 thousandths; V 46 and G 0.875, 814.736
   pub light : (a : ConstantAnswer) → RightConstant At40 9500 8700 a → HasK a (pos 840)
@@ -53,7 +55,18 @@ pub record ForcedConstants : Type 0 where
   pub zero-40 : (a : ConstantAnswer) → RightConstant At40 6500 8600 a → HasK a (pos 844)
   -- the greatest viscosity and the least density, −904.893, which is rounded to the nearest and not toward zero. (`negsuc n` is −(n + 1))
   pub below-zero : (a : ConstantAnswer) → RightConstant At40 1000000000 5000 a → HasK a (negsuc 904)
-  -- at 100 °C: V′ 2.5 and G 0.87, 835.278; the logarithm is 0: V′ 1.8 and G 0.9, 880.000; it is −3: V′ 0.801 and G 0.5, 645.256
+  -- the logarithm is −3, so that the formula is (G − 0.0664 + 0.3462) / (0.94 + 0.327): G 0.875, 911.444; G 0.865, 903.552. A number of the formula that is
+  -- one more or one less in its last place moves both by 0.07 at least, and one of them past a half
+  pub below-half-40 : (a : ConstantAnswer) → RightConstant At40 5501 8750 a → HasK a (pos 911)
+  pub above-half-40 : (a : ConstantAnswer) → RightConstant At40 5501 8650 a → HasK a (pos 904)
+  -- at 100 °C: V′ 2.5 and G 0.87, 835.278; the logarithm is 0: V′ 1.8 and G 0.9, 880.000
   pub light-100 : (a : ConstantAnswer) → RightConstant At100 2500 8700 a → HasK a (pos 835)
   pub zero-100 : (a : ConstantAnswer) → RightConstant At100 1800 9000 a → HasK a (pos 880)
-  pub least-100 : (a : ConstantAnswer) → RightConstant At100 801 5000 a → HasK a (pos 645)
+  -- the logarithm is −3, (G − 0.108 + 0.3765) / (0.90 + 0.291): G 0.854, 942.485; G 0.86, 947.523
+  pub below-half-100 : (a : ConstantAnswer) → RightConstant At100 801 8540 a → HasK a (pos 942)
+  pub above-half-100 : (a : ConstantAnswer) → RightConstant At100 801 8600 a → HasK a (pos 948)
+
+-- the sign of the fractions is forced where the logarithm is 0 (V 6.5), and where it is −3 (V′ 0.801), which is −50,331,648 over Q
+pub record ForcedFractions : Type 0 where
+  pub at-zero : (c : Constant) → RightFound At40 6500 8600 c → (c .lower ≤ℤ pos 0) × (pos 0 ≤ℤ c .upper)
+  pub below-zero : (c : Constant) → RightFound At100 801 8540 c → (c .lower ≤ℤ negsuc 50331647) × (c .upper ≤ℤ negsuc 50331583)

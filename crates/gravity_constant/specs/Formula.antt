@@ -19,9 +19,9 @@ densityTaken At40 = 664
 densityTaken At100 = 1080
 
 -- 0.1154 and 0.1255, of the logarithm, in what is divided
-abbrev pub densitySlope : Temperature → ℕ
-densitySlope At40 = 1154
-densitySlope At100 = 1255
+abbrev pub dividedSlope : Temperature → ℕ
+dividedSlope At40 = 1154
+dividedSlope At100 = 1255
 
 -- 0.94 and 0.90, the divisor where the logarithm is 0
 abbrev pub divisorStart : Temperature → ℕ
@@ -33,13 +33,13 @@ abbrev pub divisorSlope : Temperature → ℕ
 divisorSlope At40 = 1090
 divisorSlope At100 = 970
 
--- V − 5.5 or V′ − 0.8, in thousandths
+-- V − 5.5 or V′ − 0.8, in thousandths; the limits keep v above what is taken off
 abbrev pub argument : Temperature → ℕ → ℕ
 argument t v = v - viscosityTaken t
 
 -- what is divided, times Q
 abbrev pub numerator : Temperature → ℕ → ℤ → ℤ
-numerator t d f = (pos d -ℤ pos (densityTaken t)) *ℤ pos Q -ℤ pos (densitySlope t) *ℤ f
+numerator t d f = (pos d -ℤ pos (densityTaken t)) *ℤ pos Q -ℤ pos (dividedSlope t) *ℤ f
 
 -- the divisor, times Q
 abbrev pub divisor : Temperature → ℤ → ℤ

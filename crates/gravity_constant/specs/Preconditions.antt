@@ -4,6 +4,13 @@ use Rattle.gravity_constant.specs.declared.questions.Temperature.{Temper
 use Rattle.gravity_constant.specs.declared.questions.Oil.{Oil}
 use Rattle.gravity_constant.specs.Questions.{leastViscosity, greatestViscosity, leastDensity, greatestDensity}
 
+-- between which numbers the limits keep what is computed, in units of Q: what a line in the logarithm falls from, and the divisor
+abbrev pub mostTop : ℕ
+mostTop = 32768
+
+abbrev pub leastDivisor : ℕ
+leastDivisor = 2800
+
 -- an oil that questions 21 and 22 pass
 pub record Passes (t : Temperature) (v d : ℕ) : Type 0 where
   pub least : leastViscosity t ≤ v

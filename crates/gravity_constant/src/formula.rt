@@ -9,6 +9,7 @@ ghost use Rattle.logarithm.specs.Fractions.{Q-number};
 ghost use Rattle.gravity_constant.specs.Questions.{leastViscosity, greatestViscosity, leastDensity, greatestDensity};
 ghost use Rattle.gravity_constant.specs.Formula.{argument};
 ghost use Rattle.gravity_constant.specs.Chosen.{shift, digits, mostUpper, mostCount, lessLogarithm, divisorAt, sumAt, nearestThousandth, countAt, dividesAt};
+ghost use Rattle.gravity_constant.specs.Preconditions.{mostTop, leastDivisor};
 use crate::questions::Temperature;
 use logarithm::Q;
 
@@ -22,22 +23,22 @@ const DENSITY_TAKEN_40: u64 = 664;
 
 const DENSITY_TAKEN_100: u64 = 1_080;
 
-// 0.1154 and 0.1255, by which what is divided falls as the logarithm rises by 1.
-const DENSITY_SLOPE_40: u64 = 1_154;
+// 0.1154 and 0.1255, by which what is divided falls where the logarithm rises by 1.
+const DIVIDED_SLOPE_40: u64 = 1_154;
 
-const DENSITY_SLOPE_100: u64 = 1_255;
+const DIVIDED_SLOPE_100: u64 = 1_255;
 
 // 0.94 and 0.90, the divisor where the logarithm is 0.
 const DIVISOR_40: u64 = 9_400;
 
 const DIVISOR_100: u64 = 9_000;
 
-// 0.109 and 0.097, by which the divisor falls as the logarithm rises by 1.
+// 0.109 and 0.097, by which the divisor falls where the logarithm rises by 1.
 const DIVISOR_SLOPE_40: u64 = 1_090;
 
 const DIVISOR_SLOPE_100: u64 = 970;
 
-// The logarithm of 1000: by so much n / Q, the logarithm of x thousandths, is above that of the viscosity in mm²/s.
+// The logarithm of 1000: by so much n / Q, the logarithm of the number x, is above that of x thousandths of a mm²/s.
 const SHIFT: u64 = 3;
 
 // The n of a logarithm of 0.
@@ -59,7 +60,7 @@ pub fn argument_of(t: Temperature, v: u32) -> u64
 
 // start − slope times the logarithm n / Q − 3, times Q.
 fn less_logarithm(start: u64, slope: u64, n: u64) -> u64
-    requires { ⌜ (start + shift * slope ≤ 65536) × (slope * n ≤ (start + shift * slope) * Q-number) ⌝ }
+    requires { ⌜ (start + shift * slope ≤ mostTop) × (slope * n ≤ (start + shift * slope) * Q-number) ⌝ }
     ensures { λ r. ⌜ r ≡ lessLogarithm start slope n ⌝ }
 {
     (start + SHIFT * slope) * Q - slope * n
@@ -68,7 +69,7 @@ fn less_logarithm(start: u64, slope: u64, n: u64) -> u64
 // The divisor.
 pub fn divisor_at(t: Temperature, n: u64) -> u64
     requires { ⌜ n ≤ mostUpper t ⌝ }
-    ensures { λ r. ⌜ (r ≡ divisorAt t n) × (2800 * Q-number ≤ r) × (r ≤ 12670 * Q-number) ⌝ }
+    ensures { λ r. ⌜ (r ≡ divisorAt t n) × (leastDivisor * Q-number ≤ r) × (r ≤ mostTop * Q-number) ⌝ }
 {
     match t {
         Temperature::At40 => less_logarithm(DIVISOR_40, DIVISOR_SLOPE_40, n),
@@ -79,18 +80,18 @@ pub fn divisor_at(t: Temperature, n: u64) -> u64
 // What is divided and the divisor together: where the logarithm is greatest, what is divided may be below zero, and the sum never is.
 fn sum_at(t: Temperature, d: u32, n: u64) -> u64
     requires { ⌜ (leastDensity ≤ d) × (d ≤ greatestDensity) × (n ≤ mostUpper t) ⌝ }
-    ensures { λ r. ⌜ (r ≡ sumAt t d n) × (r ≤ 32768 * Q-number) ⌝ }
+    ensures { λ r. ⌜ (r ≡ sumAt t d n) × (r ≤ mostTop * Q-number) ⌝ }
 {
     let density = d as u64;
     match t {
         Temperature::At40 => less_logarithm(
             density + DIVISOR_40 - DENSITY_TAKEN_40,
-            DENSITY_SLOPE_40 + DIVISOR_SLOPE_40,
+            DIVIDED_SLOPE_40 + DIVISOR_SLOPE_40,
             n,
         ),
         Temperature::At100 => less_logarithm(
             density + DIVISOR_100 - DENSITY_TAKEN_100,
-            DENSITY_SLOPE_100 + DIVISOR_SLOPE_100,
+            DIVIDED_SLOPE_100 + DIVISOR_SLOPE_100,
             n,
         ),
     }
@@ -98,7 +99,7 @@ fn sum_at(t: Temperature, d: u32, n: u64) -> u64
 
 // sum / divisor in thousandths, to the nearest.
 fn nearest_thousandth(sum: u64, divisor: u64) -> u64
-    requires { ⌜ (sum ≤ 32768 * Q-number) × (0 < divisor) × (divisor ≤ 12670 * Q-number) ⌝ }
+    requires { ⌜ (sum ≤ mostTop * Q-number) × (0 < divisor) × (divisor ≤ mostTop * Q-number) ⌝ }
     ensures { λ r. ⌜ r ≡ nearestThousandth sum divisor ⌝ }
 {
     (2 * THOUSANDTHS * sum + divisor) / (2 * divisor)
@@ -112,7 +113,8 @@ pub fn count_at(t: Temperature, d: u32, n: u64) -> u64
     nearest_thousandth(sum_at(t, d, n), divisor_at(t, n))
 }
 
-// Question 23, of one fraction: is the divisor above zero?
+// Question 23, of one fraction: is the divisor above zero? It compares and does not subtract, as a question has to that may be answered no; by what n is
+// known to be it never is.
 pub fn divides_at(t: Temperature, n: u64) -> bool
     requires { ⌜ n ≤ mostUpper t ⌝ }
     ensures { λ b. ⌜ b ≡ dividesAt t n ⌝ }

@@ -1,5 +1,5 @@
-// The two fractions that enclose the logarithm of what formula 1 or 2 takes it of, counted from −3: n / Q is at or below the logarithm of x
-// thousandths, and (n + APART) / Q at or above it.
+// The two fractions that enclose the logarithm of formula 1 or 2, counted from −3: with x the thousandths that it is taken of, n / Q is at or below the
+// logarithm of the number x, and (n + APART) / Q at or above it.
 ghost use mathlib.Core.Path.{_≡_};
 ghost use Prim.Native.Nat.{_≤_, _+_, _*_};
 ghost use Rattle.logarithm.specs.Scale.{log10};
@@ -15,7 +15,7 @@ use logarithm::Q;
 // How far the upper n is above the lower one: so far that the width of a logarithm and the rounding of both never reach it.
 pub const APART: u64 = 2;
 
-// A quarter of Q, and of log2(10) rounded up: so the product of the first and a logarithm fits 64 bits.
+// A quarter of Q, and of log2(10) rounded up, both whole: so the product of the first and a logarithm fits 64 bits.
 const QUARTER_Q: u64 = Q / 4;
 
 const QUARTER_LOG_10: u64 = (LOG_10 + 1) / 4;

@@ -1,7 +1,7 @@
 -- Differences of whole numbers, of either sign: what they are, when two are equal, their sums and products, and their order. Each signed number
 -- of a definition is one; what holds of them is then an equation or an order of whole numbers.
 use Prim.Native.Nat.{ℕ, zero, suc, _+_, _*_, _-_, _<_, _≤_}
-use mathlib.Core.Path.{_≡_, refl, sym, _∙_, ap, ap₂}
+use mathlib.Core.Path.{_≡_, refl, sym, _∙_, ap, ap₂, subst}
 use lib.IntN.{ℤ, pos, negsuc, negℤ, subℕ, _+ℤ_, _-ℤ_, _*ℤ_}
 use lib.Signed.{_≤ℤ_, mag}
 use lib.Dec.{le→leb, leb→le}
@@ -29,13 +29,23 @@ sub-same a b c d e =
 pub pos-is : (n : ℕ) → pos n ≡ subℕ n 0
 pos-is n = ap pos (omega arith) ∙ sym (sub-pos n 0 (omega arith))
 
-neg-is : (n : ℕ) → negℤ (pos n) ≡ subℕ 0 n
+pub neg-is : (n : ℕ) → negℤ (pos n) ≡ subℕ 0 n
 neg-is zero = refl
 neg-is (suc n) = ap negsuc (omega arith) ∙ sym (sub-neg 0 (suc n) (omega arith))
 
 pub pos-less : (a b : ℕ) → pos a -ℤ pos b ≡ subℕ a b
 pos-less a zero = ap pos (omega arith) ∙ pos-is a
 pos-less a (suc b) = refl
+
+-- every number is a difference
+pub record Difference (z : ℤ) : Type 0 where
+  pub i : ℕ
+  pub j : ℕ
+  pub is : z ≡ subℕ i j
+
+pub difference : (z : ℤ) → Difference z
+difference (pos n) = record { i = n; j = 0; is = pos-is n }
+difference (negsuc n) = record { i = 0; j = suc n; is = neg-is (suc n) }
 
 -- n · (a − b)
 pub times-sub : (n a b : ℕ) → pos n *ℤ subℕ a b ≡ subℕ (n * a) (n * b)
@@ -120,6 +130,17 @@ le-sub a b c d h =
     (λ l. by-order c d
     (λ k. let o : pos (a - b) ≤ℤ negsuc (d - suc c) = rw (sub-pos a b l, sub-neg c d k) at h in absurd (o .le))
     (λ k. let o : pos (a - b) ≤ℤ pos (c - d) = rw (sub-pos a b l, sub-pos c d k) at h in omega (arith, leb→le (a - b) (c - d) (o .le))))
+
+-- a number that is not below −s, counted from −s
+pub record CountedFrom (s : ℕ) (z : ℤ) : Type 0 where
+  pub n : ℕ
+  pub is : z ≡ subℕ n s
+
+pub counted-from : (s : ℕ) (z : ℤ) → subℕ 0 s ≤ℤ z → CountedFrom s z
+counted-from s z h =
+    let d = difference z in
+    let l = le-sub 0 s (d .i) (d .j) (subst (λ (y : ℤ). subℕ 0 s ≤ℤ y) (d .is) h) in
+    record { n = d .i + s - d .j; is = d .is ∙ sub-same (d .i) (d .j) (d .i + s - d .j) s (omega arith) }
 
 -- a − c is at most a − b where b is at most c
 pub sub-falls : (a b c : ℕ) → b ≤ c → subℕ a c ≤ℤ subℕ a b

@@ -50,6 +50,10 @@ root {x} {y} n h p = go (decLe x y)
         let q : y ^ n < x ^ n = pow-lt-pow-left (lt-of-not-le l) (λ e. absurd (let z : 0 < 0 = subst (λ (k : ℕ). 0 < k) e h in omega arith)) in
         absurd (omega arith)
 
+-- a power on both sides of an order goes
+pub cancel-power : (x n : ℕ) {a b : ℕ} → 0 < x → x ^ n * a ≤ x ^ n * b → a ≤ b
+cancel-power x n some h = le-of-mul-le-mul-left {k = x ^ n} h (one-le-pow n x some)
+
 -- an order of powers of one base is one of their exponents
 pub exponents-le : (x a b : ℕ) → 1 < x → x ^ a ≤ x ^ b → a ≤ b
 exponents-le x a b base h =

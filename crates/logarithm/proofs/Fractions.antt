@@ -3,12 +3,12 @@
 use Prim.Native.Nat.{ℕ, zero, suc, _+_, _*_, _-_, _^_, _≤_}
 use mathlib.Core.Path.{_≡_, sym, _∙_, ap, subst}
 use native.Mathlib.Omega.{arith}
-use native.Mathlib.Nat.{le-trans, le-of-eq, mul-le-mul-left, le-of-mul-le-mul-left, mul-assoc, one-mul, one-le-pow}
+use native.Mathlib.Nat.{le-trans, le-of-eq, mul-le-mul-left, mul-assoc, one-mul}
 use lib.Pow.{pow-add}
 use lib.IntN.{pos, subℕ}
 use Rattle.laws.proofs.Difference.{sub-pos, sub-neg}
 use Rattle.laws.proofs.Order.{by-order}
-use Rattle.laws.proofs.Powers.{one-pow}
+use Rattle.laws.proofs.Powers.{one-pow, cancel-power}
 use Rattle.logarithm.specs.Scale.{scale, log10}
 use Rattle.logarithm.specs.Fractions.{Q, AtOrBelowLog, AtOrAboveLog}
 use Rattle.logarithm.proofs.Constants.{ten}
@@ -53,25 +53,22 @@ pos-above (suc k) x u h = h
 split : (a b c v : ℕ) → a ≡ b + c → 10 ^ a * v ≡ 10 ^ b * (10 ^ c * v)
 split a b c v e = ap (λ (k : ℕ). 10 ^ k * v) e ∙ ap (λ (k : ℕ). k * v) (pow-add 10 b c) ∙ mul-assoc (10 ^ b) (10 ^ c) v
 
-cancel : (b : ℕ) {v w : ℕ} → 10 ^ b * v ≤ 10 ^ b * w → v ≤ w
-cancel b h = le-of-mul-le-mul-left {k = 10 ^ b} h (one-le-pow b 10 (omega arith))
-
 module _ (n s x u : ℕ) where
   pub signed-below : 10 ^ n * u ^ Q ≤ 10 ^ s * x ^ Q → AtOrBelowLog x u (subℕ n s)
   signed-below h =
       by-order n s
       (λ l. subst (AtOrBelowLog x u) (sym (sub-neg n s l))
-      (cancel n (le-trans h (le-of-eq (split s n (suc (s - suc n)) (x ^ Q) (omega arith))))))
+      (cancel-power 10 n (omega arith) (le-trans h (le-of-eq (split s n (suc (s - suc n)) (x ^ Q) (omega arith))))))
       (λ l. subst (AtOrBelowLog x u) (sym (sub-pos n s l))
-      (below-pos (n - s) x u (cancel s (le-trans (le-of-eq (sym (split n s (n - s) (u ^ Q) (omega arith)))) h))))
+      (below-pos (n - s) x u (cancel-power 10 s (omega arith) (le-trans (le-of-eq (sym (split n s (n - s) (u ^ Q) (omega arith)))) h))))
 
   pub signed-above : 10 ^ s * x ^ Q ≤ 10 ^ n * u ^ Q → AtOrAboveLog x u (subℕ n s)
   signed-above h =
       by-order n s
       (λ l. subst (AtOrAboveLog x u) (sym (sub-neg n s l))
-      (cancel n (le-trans (le-of-eq (sym (split s n (suc (s - suc n)) (x ^ Q) (omega arith)))) h)))
+      (cancel-power 10 n (omega arith) (le-trans (le-of-eq (sym (split s n (suc (s - suc n)) (x ^ Q) (omega arith)))) h)))
       (λ l. subst (AtOrAboveLog x u) (sym (sub-pos n s l))
-      (above-pos (n - s) x u (cancel s (le-trans h (le-of-eq (split n s (n - s) (u ^ Q) (omega arith)))))))
+      (above-pos (n - s) x u (cancel-power 10 s (omega arith) (le-trans h (le-of-eq (split n s (n - s) (u ^ Q) (omega arith)))))))
 
   pub unsigned-below : AtOrBelowLog x u (subℕ n s) → 10 ^ n * u ^ Q ≤ 10 ^ s * x ^ Q
   unsigned-below h =

@@ -5,7 +5,7 @@ use native.Mathlib.Omega.{arith}
 use borrow.Author.Needs.{needs}
 use Rattle.gravity_constant.specs.declared.answer.ConstantAnswer.the-variants.{Found}
 use Rattle.gravity_constant.specs.Chosen.{apart}
-use Rattle.gravity_constant.proofs.Near.{small-n}
+use Rattle.gravity_constant.proofs.Fits.{small-n}
 use Rattle.gravity_constant.proofs.Cases.{found, no-divisor-lower, no-divisor-upper}
 use Rattle.gravity_constant.proofs.answer.answer_at.Statement.{statement}
 use Rattle.gravity_constant.proofs.answer.answer_at.Tie as tie

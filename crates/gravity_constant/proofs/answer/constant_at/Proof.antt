@@ -5,7 +5,7 @@ use native.Mathlib.Omega.{arith}
 use borrow.Author.Needs.{sfits-of, needs}
 use mir.Facts.{toZ-ofZ}
 use Rattle.gravity_constant.specs.Chosen.{apart}
-use Rattle.gravity_constant.proofs.Near.{small-n}
+use Rattle.gravity_constant.proofs.Fits.{small-n}
 use Rattle.gravity_constant.proofs.Cases.{constant-is}
 use Rattle.gravity_constant.proofs.answer.constant_at.Statement.{statement}
 use Rattle.gravity_constant.proofs.answer.constant_at.Tie as tie

@@ -1,6 +1,6 @@
--- The quotient of the definition, and fewer than 20,000 (proofs/Near.antt).
+-- The quotient of the definition, and fewer than 20,000 (proofs/Fits.antt).
 use borrow.Author.Needs.{needs}
-use Rattle.gravity_constant.proofs.Near.{in-formula, counted}
+use Rattle.gravity_constant.proofs.Fits.{in-formula, counted}
 use Rattle.gravity_constant.proofs.formula.count_at.Statement.{statement}
 use Rattle.gravity_constant.proofs.formula.count_at.Tie as tie
 
