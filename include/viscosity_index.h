@@ -6,8 +6,8 @@
  * What a caller may rely on, for any numbers and any bytes:
  * - Every function returns, and answers one of the numbers below. There is nothing to test beforehand, to initialise or to free.
  * - They read and write only the memory lent to them, remember nothing between calls, and may run at the same time on different memory.
- *   A buffer of bytes may have any alignment, and a row of numbers that of its numbers. Where its length is 0, nothing is read through its
- *   pointer.
+ *   A buffer of bytes may have any alignment; a row of numbers is aligned as any array of int32_t. Where the length is 0, nothing is read
+ *   through the pointer.
  * - The same question always gets the same answer; a pair in a record as in a sheet.
  * - A refused sheet, a record that is not 16 bytes, a row that is not 3 numbers, and the row of a refused constant are left as they were. The
  *   record of a refused pair is filled as any other, with the pair's number and zeros; a refused pair does not stop its sheet.
@@ -44,24 +44,24 @@
 #define VI_SHEET_SHARED 16u  /* Do the blocks share no byte? */
 
 /* The limits of the constant's density at 15 °C, in 0.0001 g/ml, and of its viscosity at 40 °C or 100 °C, in thousandths of a mm²/s. */
-#define VI_DENSITY_LEAST 5000u                      /* 0.5 g/ml */
-#define VI_DENSITY_GREATEST 15000u                  /* 1.5 g/ml */
-#define VI_CONSTANT_40_LEAST 5501u                  /* 5.501 mm²/s */
-#define VI_CONSTANT_40_GREATEST 1000000000u         /* 1,000,000 mm²/s */
-#define VI_CONSTANT_100_LEAST 801u                  /* 0.801 mm²/s */
-#define VI_CONSTANT_100_GREATEST 500000u            /* 500 mm²/s */
+#define VI_DENSITY_LEAST 5000u              /* 0.5 g/ml */
+#define VI_DENSITY_GREATEST 15000u          /* 1.5 g/ml */
+#define VI_CONSTANT_40_LEAST 5501u          /* 5.501 mm²/s */
+#define VI_CONSTANT_40_GREATEST 1000000000u /* 1,000,000 mm²/s */
+#define VI_CONSTANT_100_LEAST 801u          /* 0.801 mm²/s */
+#define VI_CONSTANT_100_GREATEST 500000u    /* 500 mm²/s */
 
 /* The number of a constant, likewise; VI_ANSWERED where every question is answered yes. */
-#define VI_CONSTANT_NOT_3 5u          /* asked first: Is the row just 3 numbers? */
-#define VI_VISCOSITY_OUTSIDE 21u      /* Is the viscosity within the range of its temperature? */
-#define VI_DENSITY_OUTSIDE 22u        /* Is the density from 5,000 to 15,000? */
-#define VI_DIVISOR_NOT_ABOVE_0 23u    /* Is the formula's divisor above zero at both fractions? No oil within the limits meets this number. */
+#define VI_CONSTANT_NOT_3 5u       /* asked first: Is the row just 3 numbers? */
+#define VI_VISCOSITY_OUTSIDE 21u   /* Is the viscosity within the range of its temperature? */
+#define VI_DENSITY_OUTSIDE 22u     /* Is the density from 5,000 to 15,000? */
+#define VI_DIVISOR_NOT_ABOVE_0 23u /* Is the formula's divisor above zero at both fractions? No oil within the limits meets this number. */
 
-/* The row of a constant: three numbers, at these places. */
-#define VI_CONSTANT_SIZE 3u  /* numbers */
-#define VI_CONSTANT_K 0u     /* k, the constant in thousandths: the formula lies from k - 0.51 to k + 0.51 at both fractions */
-#define VI_CONSTANT_LOWER 1u /* the numerators over VI_Q of two fractions, the lower at or below the formula's logarithm */
-#define VI_CONSTANT_UPPER 2u /* and the upper at or above it; they are at most 64 apart. All three may be negative. */
+/* The row of a constant: three numbers with sign, at these places. */
+#define VI_CONSTANT_SIZE 3u  /* numbers, not bytes */
+#define VI_CONSTANT_K 0u     /* k, the constant in thousandths, from -905 to 2592: the formula lies from k - 0.51 to k + 0.51 thousandths */
+#define VI_CONSTANT_LOWER 1u /* with the logarithm taken as lower / VI_Q, which is at or below it, and as upper / VI_Q, which is at or above */
+#define VI_CONSTANT_UPPER 2u /* it. lower and upper are at most 64 apart. VI_Q has no sign: divide by (double)VI_Q or (int32_t)VI_Q. */
 
 /* A sheet's header: four 32-bit numbers, at these offsets. The blocks stand in either order, with other bytes between. */
 #define VI_HEADER_SIZE 16u    /* bytes */
@@ -112,8 +112,12 @@ uint32_t vi_pair(uint32_t u, uint32_t y, uint8_t *record, size_t length);
 uint32_t vi_sheet(uint8_t *sheet, size_t length);
 
 /*
- * The viscosity-gravity constant of an oil from its viscosity at 40 °C, and from that at 100 °C. `row` points to `count` numbers. If count is
- * not VI_CONSTANT_SIZE, answers VI_CONSTANT_NOT_3 and leaves them as they are. If the oil is refused, answers 21, 22 or 23 and leaves them too.
+ * The viscosity-gravity constant of an oil, by formulas 1 and 2 of INSO 21904:2016 (after ASTM D2501), with G the density at 15 °C in g/ml, V and
+ * V' the viscosities at 40 °C and 100 °C in mm²/s, and log to the base 10:
+ *     vi_constant_40    (G - 0.0664 - 0.1154 log(V - 5.5)) / (0.94 - 0.109 log(V - 5.5))
+ *     vi_constant_100   (G - 0.108 - 0.1255 log(V' - 0.8)) / (0.90 - 0.097 log(V' - 0.8))
+ * `viscosity` is in thousandths of a mm²/s, `density` in 0.0001 g/ml. `row` points to `count` numbers (not bytes). If count is not
+ * VI_CONSTANT_SIZE, answers VI_CONSTANT_NOT_3 and leaves them as they are. If the oil is refused, answers 21, 22 or 23 and leaves them too.
  * Otherwise fills the row and answers VI_ANSWERED.
  */
 uint32_t vi_constant_40(uint32_t viscosity, uint32_t density, int32_t *row, size_t count);

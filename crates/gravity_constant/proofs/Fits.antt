@@ -45,7 +45,7 @@ close-there K N D s r h a b = record { least = omega (arith, simp ring at (h .le
 -- ---- at each temperature
 
 abbrev mostSlopes : ℕ
-mostSlopes = 2244
+mostSlopes = 2500
 
 -- what the limits of n and of the density say of the formula
 pub record InFormula (t : Temperature) (d n : ℕ) : Type 0 where
