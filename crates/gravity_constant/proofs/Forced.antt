@@ -38,12 +38,12 @@ use Rattle.gravity_constant.proofs.AnyFractions.{decades, from, Between
 -- ---- the number
 
 -- the fractions of an oil that the limits do not refuse, counted
-counted : (t : Temperature) (v d : ℕ) (lower upper : ℤ) → refusal t v d ≡ 0 → Encloses t v lower upper → Between (argument t v) lower upper
+pub counted : (t : Temperature) (v d : ℕ) (lower upper : ℤ) → refusal t v d ≡ 0 → Encloses t v lower upper → Between (argument t v) lower upper
 counted t v d lower upper z e =
     between (argument t v) lower upper (argument-least t v (passes t v d z .least)) (e .below) (e .above) (e .close)
 
 -- the divisor is above zero at every n that is not too great
-few-enough : (t : Temperature) (n : ℕ) → n ≤ (digits t + 1) * Q-number + 64 → leastDivisor * Q-number + divisorSlope t * n ≤ divisorTop t decades
+pub few-enough : (t : Temperature) (n : ℕ) → n ≤ (digits t + 1) * Q-number + 64 → leastDivisor * Q-number + divisorSlope t * n ≤ divisorTop t decades
 few-enough At40 n h = omega arith
 few-enough At100 n h = omega arith
 

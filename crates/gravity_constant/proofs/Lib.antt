@@ -8,3 +8,4 @@ pub mod Fits
 pub mod Right
 pub mod AnyFractions
 pub mod Forced
+pub mod LeftFree

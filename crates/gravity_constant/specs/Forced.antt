@@ -2,7 +2,7 @@
 -- offered for it. proofs/Forced.antt shows it.
 use Prim.Native.Nat.{ℕ, _<_}
 use mathlib.Core.Path.{_≡_}
-use lib.IntN.{ℤ, pos, negsuc}
+use lib.IntN.{ℤ, pos, negsuc, _+ℤ_}
 use lib.Signed.{_≤ℤ_}
 use Rattle.gravity_constant.specs.declared.questions.Temperature.{Temperature}
 use Rattle.gravity_constant.specs.declared.questions.Temperature.the-variants.{At40, At100}
@@ -70,3 +70,10 @@ pub record ForcedConstants : Type 0 where
 pub record ForcedFractions : Type 0 where
   pub at-zero : (c : Constant) → RightFound At40 6500 8600 c → (c .lower ≤ℤ pos 0) × (pos 0 ≤ℤ c .upper)
   pub below-zero : (c : Constant) → RightFound At100 801 8540 c → (c .lower ≤ℤ negsuc 50331647) × (c .upper ≤ℤ negsuc 50331583)
+
+-- what is left free, and no more: k is from −905 to 2592; two right constants of one oil have k at most 1 apart, and lower numerators at most 64
+pub record LeftFree : Type 0 where
+  pub least : (t : Temperature) (v d : ℕ) (c : Constant) → RightFound t v d c → negsuc 904 ≤ℤ c .thousandths
+  pub most : (t : Temperature) (v d : ℕ) (c : Constant) → RightFound t v d c → c .thousandths ≤ℤ pos 2592
+  pub constants : (t : Temperature) (v d : ℕ) (b c : Constant) → RightFound t v d b → RightFound t v d c → b .thousandths ≤ℤ (c .thousandths +ℤ pos 1)
+  pub fractions : (t : Temperature) (v d : ℕ) (b c : Constant) → RightFound t v d b → RightFound t v d c → b .lower ≤ℤ (c .lower +ℤ pos 64)
