@@ -172,7 +172,7 @@ fn sheets() {
     );
 }
 
-fn constants() {
+fn constants_at_40() {
     told(
         b"constant at 40, viscosity 9500, density 8700: 840",
         constant_is(Temperature::At40, 9_500, 8_700, 840),
@@ -197,6 +197,9 @@ fn constants() {
         b"constant at 40, viscosity 1000000000, density 15000: 2592",
         constant_is(Temperature::At40, 1_000_000_000, 15_000, 2_592),
     );
+}
+
+fn constants_at_100() {
     told(
         b"constant at 100, viscosity 2500, density 8700: 835",
         constant_is(Temperature::At100, 2_500, 8_700, 835),
@@ -251,6 +254,7 @@ fn main() {
     answered_pairs();
     refused_pairs();
     sheets();
-    constants();
+    constants_at_40();
+    constants_at_100();
     refused_constants();
 }

@@ -1,4 +1,4 @@
--- k, which the program finds counted from −1000 thousandths, fits the formula at both fractions. N is what is divided and the divisor together, D the
+-- k, which the program finds counted from −1000 thousandths, fits the formula at both fractions. N is the dividend and the divisor together, D the
 -- divisor.
 use Prim.Native.Nat.{ℕ, _+_, _*_, _-_, _≤_, _<_}
 use mathlib.Core.Path.{_≡_, sym, ap₂, _∙_, subst, subst₂}
@@ -11,11 +11,11 @@ use Rattle.logarithm.specs.Fractions.{Q-number}
 use Rattle.gravity_constant.specs.declared.questions.Temperature.{Temperature}
 use Rattle.gravity_constant.specs.declared.questions.Temperature.the-variants.{At40, At100}
 use Rattle.gravity_constant.specs.Questions.{leastDensity, greatestDensity}
-use Rattle.gravity_constant.specs.Formula.{densityTaken, dividedSlope, divisorStart, divisorSlope}
+use Rattle.gravity_constant.specs.Formula.{densityTaken, dividendSlope, divisorStart, divisorSlope}
 use Rattle.gravity_constant.specs.Answer.{Fits}
 use Rattle.gravity_constant.specs.Chosen.{apart, mostUpper, shift, lessLogarithm, divisorAt, sumAt, thousandths, nearestThousandth, countAt, mostCount}
 use Rattle.gravity_constant.specs.Preconditions.{mostTop, leastDivisor}
-use Rattle.gravity_constant.proofs.WholeNumbers.{divisorTop, A, B, Plain, divisor-is, numerator-is, fits}
+use Rattle.gravity_constant.proofs.WholeNumbers.{divisorTop, A, B, Plain, divisor-is, dividend-is, fits}
 
 -- ---- the inequalities, with N and D as plain numbers
 
@@ -51,9 +51,9 @@ mostSlopes = 2500
 pub record InFormula (t : Temperature) (d n : ℕ) : Type 0 where
   pub divisor-above : leastDivisor * Q-number + divisorSlope t * n ≤ divisorTop t shift
   pub density-above : densityTaken t ≤ d + divisorStart t
-  pub sum-fits : d + divisorStart t - densityTaken t + shift * (dividedSlope t + divisorSlope t) ≤ mostTop
-  pub slopes-few : dividedSlope t + divisorSlope t ≤ mostSlopes
-  pub sum-above : (dividedSlope t + divisorSlope t) * n ≤ (d + divisorStart t - densityTaken t + shift * (dividedSlope t + divisorSlope t)) * Q-number
+  pub sum-fits : d + divisorStart t - densityTaken t + shift * (dividendSlope t + divisorSlope t) ≤ mostTop
+  pub slopes-few : dividendSlope t + divisorSlope t ≤ mostSlopes
+  pub sum-above : (dividendSlope t + divisorSlope t) * n ≤ (d + divisorStart t - densityTaken t + shift * (dividendSlope t + divisorSlope t)) * Q-number
 
 pub in-formula : (t : Temperature) (d n : ℕ) → leastDensity ≤ d → d ≤ greatestDensity → n ≤ mostUpper t → InFormula t d n
 in-formula At40 d n light heavy h =
@@ -68,7 +68,7 @@ plain-from K N D A B sum c = record { least = omega (arith, c .least); most = om
 module _ (t : Temperature) (d n : ℕ) (o : InFormula t d n) where
   fits-at : (K : ℕ) → Close K (sumAt t d n) (divisorAt t n) → Fits t d (subℕ K thousandths) (subℕ n (shift * Q-number))
   fits-at K c =
-      fits t d K thousandths (divisorAt t n) (A t shift d) (B t n) _ (divisor-is t shift n (omega (arith, o .divisor-above))) (numerator-is t shift n d)
+      fits t d K thousandths (divisorAt t n) (A t shift d) (B t n) _ (divisor-is t shift n (omega (arith, o .divisor-above))) (dividend-is t shift n d)
       (omega (arith, o .divisor-above))
       (plain-from K (sumAt t d n) (divisorAt t n) (A t shift d) (B t n)
       (simp ring (omega (arith, simp ring at (o .sum-above), o .divisor-above, o .density-above))) c)
@@ -88,19 +88,19 @@ module _ (t : Temperature) (d n : ℕ) (o : InFormula t d n) where
   pub fits-lower : Fits t d (subℕ (countAt t d n) thousandths) (subℕ n (shift * Q-number))
   fits-lower = fits-at (countAt t d n) (close-here _ _ _ here)
 
--- at the upper n, by how much less
+-- by how much the line is less at the upper n
 further : (start slope n : ℕ) → slope * (n + apart) ≤ (start + shift * slope) * Q-number
     → lessLogarithm start slope n ≡ lessLogarithm start slope (n + apart) + apart * slope
 further start slope n h = omega (arith, h, mul-add slope n apart)
 
--- K counts of what the divisor is less by
+-- what that makes in K times the divisor is little
 few-times : (K r : ℕ) → K < mostCount → r ≤ apart * mostSlopes → 100 * (K * r) + 50 * r ≤ leastDivisor * Q-number
 few-times K r h l = let m : K * r ≤ mostCount * r = mul-le-mul-right r (omega arith) in omega arith
 
 pub fits-upper : (t : Temperature) (d n : ℕ) → InFormula t d n → InFormula t d (n + apart)
     → Fits t d (subℕ (countAt t d n) thousandths) (subℕ (n + apart) (shift * Q-number))
 fits-upper t d n o p =
-    let s = apart * (dividedSlope t + divisorSlope t) in
+    let s = apart * (dividendSlope t + divisorSlope t) in
     let r = apart * divisorSlope t in
     fits-at t d (n + apart) p (countAt t d n)
     (close-there (countAt t d n) (sumAt t d (n + apart)) (divisorAt t (n + apart)) s r

@@ -25,14 +25,14 @@ use Rattle.gravity_constant.specs.declared.answer.Constant.{Constant}
 use Rattle.gravity_constant.specs.declared.answer.ConstantAnswer.{ConstantAnswer}
 use Rattle.gravity_constant.specs.declared.answer.ConstantAnswer.the-variants.{Refused, Found}
 use Rattle.gravity_constant.specs.Questions.{refusal}
-use Rattle.gravity_constant.specs.Formula.{densityTaken, dividedSlope, divisorSlope, argument, divisor}
+use Rattle.gravity_constant.specs.Formula.{densityTaken, dividendSlope, divisorSlope, argument, divisor}
 use Rattle.gravity_constant.specs.Answer.{numberOf, Encloses, Fits, NoDivisor, RightFound, RightConstant}
 use Rattle.gravity_constant.specs.Chosen.{digits}
 use Rattle.gravity_constant.specs.Preconditions.{leastDivisor}
 use Rattle.gravity_constant.specs.Forced.{ForcedNumbers, ForcedLimits, HasK, ForcedConstants, ForcedFractions}
 use Rattle.gravity_constant.proofs.QuestionOrder.{passes}
 use Rattle.gravity_constant.proofs.Enclosure.{argument-least, argument-most}
-use Rattle.gravity_constant.proofs.WholeNumbers.{divisorTop, D, A, B, divisor-is, numerator-is, plain}
+use Rattle.gravity_constant.proofs.WholeNumbers.{divisorTop, D, A, B, divisor-is, dividend-is, plain}
 use Rattle.gravity_constant.proofs.AnyFractions.{decades, from, Between, between, most, not-above-zero, not-below-zero}
 
 -- ---- the number
@@ -105,7 +105,7 @@ forced-limits =
       high-and-heavy = refl;
     }
 
--- ---- k, with N, D and the formula's sides A − B as plain numbers
+-- ---- k, with the divisor D and the dividend A − B as plain numbers
 
 -- i − j is p − q: one more would be above the formula by more than 0.51, and one less below it
 only-one : (i j p q D A B : ℕ) → 100 * (i * D) + 100000 * B ≤ 100000 * A + 100 * (j * D) + 51 * D
@@ -159,10 +159,10 @@ module _ (a w u c x z S e : ℕ) where
 
 -- at n, one more than p − q is above the formula by more than 0.51, and one less is below it
 abbrev Great : Temperature → ℕ → ℕ → ℕ → ℕ → Type 0
-Great t d p q = Under (100000 * A t decades d) 0 (100 * q + 51) (100000 * (densityTaken t * Q-number)) (100000 * dividedSlope t) (100 * p + 100) (divisorTop t decades) (divisorSlope t)
+Great t d p q = Under (100000 * A t decades d) 0 (100 * q + 51) (100000 * (densityTaken t * Q-number)) (100000 * dividendSlope t) (100 * p + 100) (divisorTop t decades) (divisorSlope t)
 
 abbrev Small : Temperature → ℕ → ℕ → ℕ → ℕ → Type 0
-Small t d p q = Under (100000 * (densityTaken t * Q-number)) (100000 * dividedSlope t) (100 * p + 51) (100000 * A t decades d) 0 (100 * q + 100) (divisorTop t decades) (divisorSlope t)
+Small t d p q = Under (100000 * (densityTaken t * Q-number)) (100000 * dividendSlope t) (100 * p + 51) (100000 * A t decades d) 0 (100 * q + 100) (divisorTop t decades) (divisorSlope t)
 
 -- what is computed for an oil stands as premises; 10 times its argument is what `Between` speaks of
 module _ (t : Temperature) (v d lo hi p q : ℕ)
@@ -202,7 +202,7 @@ module _ (t : Temperature) (v d lo hi p q : ℕ)
       let l = not-low (c .lower) (c .upper) b in
       let h = not-high (c .lower) (c .upper) b in
       let k = difference (c .thousandths) in
-      let r′ = plain t d (k .i) (k .j) (D t decades (b .n)) (A t decades d) (B t (b .n)) (subℕ (b .n) from) (divisor-is t decades (b .n) (fits-there (b .n) h)) (numerator-is t decades (b .n) d)
+      let r′ = plain t d (k .i) (k .j) (D t decades (b .n)) (A t decades d) (B t (b .n)) (subℕ (b .n) from) (divisor-is t decades (b .n) (fits-there (b .n) h)) (dividend-is t decades (b .n) d)
       (subst₂ (Fits t d) (k .is) (b .lower-is) (r .at-lower)) in
       let great = under _ _ _ _ _ _ _ _ lo hi (b .n) divides-there great-lo great-hi l h in
       let small = under _ _ _ _ _ _ _ _ lo hi (b .n) divides-there small-lo small-hi l h in

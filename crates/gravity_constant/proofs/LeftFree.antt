@@ -13,14 +13,14 @@ use Rattle.gravity_constant.specs.declared.questions.Temperature.{Temper
 use Rattle.gravity_constant.specs.declared.questions.Temperature.the-variants.{At40, At100}
 use Rattle.gravity_constant.specs.declared.answer.Constant.{Constant}
 use Rattle.gravity_constant.specs.Questions.{leastDensity, greatestDensity}
-use Rattle.gravity_constant.specs.Formula.{dividedSlope, divisorSlope, argument}
+use Rattle.gravity_constant.specs.Formula.{dividendSlope, divisorSlope, argument}
 use Rattle.gravity_constant.specs.Answer.{Fits, RightFound}
 use Rattle.gravity_constant.specs.Chosen.{digits}
 use Rattle.gravity_constant.specs.Preconditions.{leastDivisor}
 use Rattle.gravity_constant.specs.Forced.{LeftFree}
 use Rattle.gravity_constant.proofs.QuestionOrder.{passes}
 use Rattle.gravity_constant.proofs.Enclosure.{argument-most}
-use Rattle.gravity_constant.proofs.WholeNumbers.{divisorTop, D, A, B, Plain, divisor-is, numerator-is, plain}
+use Rattle.gravity_constant.proofs.WholeNumbers.{divisorTop, D, A, B, Plain, divisor-is, dividend-is, plain}
 use Rattle.gravity_constant.proofs.AnyFractions.{decades, from, Between, most}
 use Rattle.gravity_constant.proofs.Forced.{counted, few-enough}
 
@@ -38,7 +38,7 @@ not-most i j D A B r h =
     (λ l. let m : (j + 2593) * D ≤ i * D = mul-le-mul-right D (omega arith) in absurd (omega (arith, simp ring at m, r .least, h)))
     (λ l. l)
 
--- the formula at the greatest n that any lower fraction has
+-- the formula at every n that a lower fraction may have
 above-least : (t : Temperature) (d n : ℕ) → leastDensity ≤ d → n ≤ (digits t + 1) * Q-number → 100000 * B t n < 100000 * A t decades d + 90549 * D t decades n
 above-least At40 d n l h = omega arith
 above-least At100 d n l h = omega arith
@@ -71,7 +71,7 @@ module _ (t : Temperature) (v d : ℕ) (c : Constant) (r : RightFound t v d c) w
       let large = few-enough t (b .n) (omega (arith, m .0)) in
       let p =
       plain t d (k .i) (k .j) (D t decades (b .n)) (A t decades d) (B t (b .n)) (subℕ (b .n) from) (divisor-is t decades (b .n) (omega (arith, large)))
-      (numerator-is t decades (b .n) d) (subst₂ (Fits t d) (k .is) (b .lower-is) (r .at-lower)) in
+      (dividend-is t decades (b .n) d) (subst₂ (Fits t d) (k .is) (b .lower-is) (r .at-lower)) in
       record {
         k-is = k .is;
         lower-is = b .lower-is;
@@ -83,7 +83,7 @@ module _ (t : Temperature) (v d : ℕ) (c : Constant) (r : RightFound t v d c) w
 
 -- ---- two of one oil: i − j and i′ − j′, at most 64 apart in n. b and e are the slopes, s how far one n is past the other
 
--- a k that is 2 more would be above the formula by more than twice 0.51 and what is lost between the two n
+-- a k that is 2 more than another would be further from it than twice 0.51 and what the formula changes by between the two n
 too-far : (i j i′ j′ D X : ℕ) → 100 * (i * D) + 100 * (j′ * D) ≤ 100 * (j * D) + 100 * (i′ * D) + 102 * D + X → X < 98 * D → i + j′ ≤ j + i′ + 1
 too-far i j i′ j′ D X h l =
     by-order (j + i′ + 1) (i + j′)
@@ -106,10 +106,10 @@ before i j i′ j′ D A B r w p q l h =
 further-D : (t : Temperature) (n s : ℕ) → divisorSlope t * (n + s) ≤ divisorTop t decades → D t decades n ≡ D t decades (n + s) + divisorSlope t * s
 further-D t n s h = omega (arith, h, mul-add (divisorSlope t) n s)
 
-further-B : (t : Temperature) (n s : ℕ) → B t (n + s) ≡ B t n + dividedSlope t * s
-further-B t n s = omega (arith, mul-add (dividedSlope t) n s)
+further-B : (t : Temperature) (n s : ℕ) → B t (n + s) ≡ B t n + dividendSlope t * s
+further-B t n s = omega (arith, mul-add (dividendSlope t) n s)
 
-lost : (t : Temperature) (s : ℕ) → s ≤ 64 → (90551 * (divisorSlope t * s) + 100000 * (dividedSlope t * s) < leastDivisor * Q-number) × (259251 * (divisorSlope t * s) < leastDivisor * Q-number)
+lost : (t : Temperature) (s : ℕ) → s ≤ 64 → (90551 * (divisorSlope t * s) + 100000 * (dividendSlope t * s) < leastDivisor * Q-number) × (259251 * (divisorSlope t * s) < leastDivisor * Q-number)
 lost At40 s h = (omega arith, omega arith)
 lost At100 s h = (omega arith, omega arith)
 
@@ -117,7 +117,7 @@ module _ (t : Temperature) (d : ℕ) (c e : Constant) (n i j m x y : ℕ) (f : C
   apart-past : (s : ℕ) → m ≡ n + s → s ≤ 64 → i + y ≤ j + x + 1
   apart-past s is few =
       let k : divisorSlope t * (n + s) ≤ divisorTop t decades = omega (arith, ap (λ (z : ℕ). divisorSlope t * z) is, g .large) in
-      past i j x y (D t decades (n + s)) (A t decades d) (B t n) (divisorSlope t * s) (dividedSlope t * s)
+      past i j x y (D t decades (n + s)) (A t decades d) (B t n) (divisorSlope t * s) (dividendSlope t * s)
       (subst (λ (z : ℕ). Plain i j z (A t decades d) (B t n)) (further-D t n s k) (f .in-numbers))
       (subst (λ (z : ℕ). Plain x y (D t decades (n + s)) (A t decades d) z) (further-B t n s) (subst (λ (z : ℕ). Plain x y (D t decades z) (A t decades d) (B t z)) is (g .in-numbers)))
       (f .not-below)
@@ -126,7 +126,7 @@ module _ (t : Temperature) (d : ℕ) (c e : Constant) (n i j m x y : ℕ) (f : C
   apart-before : (s : ℕ) → n ≡ m + s → s ≤ 64 → i + y ≤ j + x + 1
   apart-before s is few =
       let k : divisorSlope t * (m + s) ≤ divisorTop t decades = omega (arith, ap (λ (z : ℕ). divisorSlope t * z) is, f .large) in
-      before i j x y (D t decades (m + s)) (A t decades d) (B t m) (divisorSlope t * s) (dividedSlope t * s)
+      before i j x y (D t decades (m + s)) (A t decades d) (B t m) (divisorSlope t * s) (dividendSlope t * s)
       (subst (λ (z : ℕ). Plain i j (D t decades (m + s)) (A t decades d) z) (further-B t m s) (subst (λ (z : ℕ). Plain i j (D t decades z) (A t decades d) (B t z)) is (f .in-numbers)))
       (subst (λ (z : ℕ). Plain x y z (A t decades d) (B t m)) (further-D t m s k) (g .in-numbers))
       (g .not-above)

@@ -1,4 +1,4 @@
--- The formula at a numerator f = n − s·Q, counted from −s, in whole numbers from 0 up: what is divided is A − B, the divisor is D, and what `Fits` says is
+-- The formula at a numerator f = n − s·Q, counted from −s, in whole numbers from 0 up: the dividend is A − B, the divisor is D, and what `Fits` says is
 -- two orders of whole numbers. The code counts from −3; any fraction that encloses a logarithm can be counted from −4.
 use Prim.Native.Nat.{ℕ, _+_, _*_, _-_, _≤_, _<_}
 use mathlib.Core.Path.{_≡_, sym, ap, ap₂, _∙_, subst, subst₂}
@@ -10,10 +10,10 @@ use Rattle.laws.proofs.Difference.{sub-pos, pos-is, pos-less, add-sub, sub-sub,
 use Rattle.laws.proofs.Powers.{ring}
 use Rattle.logarithm.specs.Fractions.{Q, Q-is, Q-number}
 use Rattle.gravity_constant.specs.declared.questions.Temperature.{Temperature}
-use Rattle.gravity_constant.specs.Formula.{densityTaken, dividedSlope, divisorStart, divisorSlope, numerator, divisor}
+use Rattle.gravity_constant.specs.Formula.{densityTaken, dividendSlope, divisorStart, divisorSlope, dividend, divisor}
 use Rattle.gravity_constant.specs.Answer.{Fits}
 
--- ---- the divisor, and what is divided, times Q
+-- ---- the divisor, and the dividend, times Q
 
 -- what the divisor falls from as n rises, and the divisor
 abbrev pub divisorTop : Temperature → ℕ → ℕ
@@ -22,12 +22,12 @@ divisorTop t s = (divisorStart t + s * divisorSlope t) * Q-number
 abbrev pub D : Temperature → ℕ → ℕ → ℕ
 D t s n = divisorTop t s - divisorSlope t * n
 
--- what is divided, as A − B
+-- the dividend, as A − B
 abbrev pub A : Temperature → ℕ → ℕ → ℕ
-A t s d = d * Q-number + dividedSlope t * (s * Q-number)
+A t s d = d * Q-number + dividendSlope t * (s * Q-number)
 
 abbrev pub B : Temperature → ℕ → ℕ
-B t n = densityTaken t * Q-number + dividedSlope t * n
+B t n = densityTaken t * Q-number + dividendSlope t * n
 
 -- c·q − e·(n − s)
 times-less : (c q e n s : ℕ) → pos c *ℤ pos q -ℤ pos e *ℤ subℕ n s ≡ subℕ (c * q + e * s) (0 + e * n)
@@ -48,10 +48,10 @@ module _ (t : Temperature) (s n : ℕ) where
       top : divisorSlope t * n ≤ divisorTop t s → 0 + divisorSlope t * n ≤ divisorStart t * Q-number + divisorSlope t * (s * Q-number)
       top l = simp ring (omega (arith, simp ring at l))
 
-  pub numerator-is : (d : ℕ) → numerator t d (subℕ n (s * Q-number)) ≡ subℕ (A t s d) (B t n)
-  numerator-is d =
-      difference-less d (densityTaken t) Q (dividedSlope t) n (s * Q-number)
-      ∙ ap₂ subℕ (ap (λ (q : ℕ). d * q + dividedSlope t * (s * Q-number)) Q-is) (ap (λ (q : ℕ). densityTaken t * q + dividedSlope t * n) Q-is)
+  pub dividend-is : (d : ℕ) → dividend t d (subℕ n (s * Q-number)) ≡ subℕ (A t s d) (B t n)
+  dividend-is d =
+      difference-less d (densityTaken t) Q (dividendSlope t) n (s * Q-number)
+      ∙ ap₂ subℕ (ap (λ (q : ℕ). d * q + dividendSlope t * (s * Q-number)) Q-is) (ap (λ (q : ℕ). densityTaken t * q + dividendSlope t * n) Q-is)
 
 -- ---- what `Fits` says, k = i − j
 
@@ -70,8 +70,8 @@ most-is i j D =
     ap (λ (z : ℤ). (z +ℤ pos 51) *ℤ pos D) (times-sub 100 i j)
     ∙ ap (λ (z : ℤ). z *ℤ pos D) (add-sub (100 * i) (100 * j) 51 0) ∙ sub-times D (100 * i + 51) (100 * j + 0)
 
-module _ (t : Temperature) (d i j D A B : ℕ) (f : ℤ) (e : divisor t f ≡ pos D) (n : numerator t d f ≡ subℕ A B) where
-  scaled : pos 100000 *ℤ numerator t d f ≡ subℕ (100000 * A) (100000 * B)
+module _ (t : Temperature) (d i j D A B : ℕ) (f : ℤ) (e : divisor t f ≡ pos D) (n : dividend t d f ≡ subℕ A B) where
+  scaled : pos 100000 *ℤ dividend t d f ≡ subℕ (100000 * A) (100000 * B)
   scaled = ap (λ (z : ℤ). pos 100000 *ℤ z) n ∙ times-sub 100000 A B
 
   lower : (pos 100 *ℤ subℕ i j -ℤ pos 51) *ℤ divisor t f ≡ subℕ ((100 * i + 0) * D) ((100 * j + 51) * D)

@@ -13,7 +13,7 @@ use Rattle.gravity_constant.specs.declared.answer.Constant.{Constant}
 use Rattle.gravity_constant.specs.declared.answer.ConstantAnswer.{ConstantAnswer}
 use Rattle.gravity_constant.specs.declared.answer.ConstantAnswer.the-variants.{Refused, Found}
 use Rattle.gravity_constant.specs.Questions.{refusal}
-use Rattle.gravity_constant.specs.Formula.{argument, numerator, divisor}
+use Rattle.gravity_constant.specs.Formula.{argument, dividend, divisor}
 
 -- the number of the question that refused, 0 where a constant is answered
 abbrev pub numberOf : ConstantAnswer → ℕ
@@ -28,12 +28,12 @@ pub record Encloses (t : Temperature) (v : ℕ) (lower upper : ℤ) : Type 0 whe
   pub order : lower ≤ℤ upper
   pub close : (upper -ℤ lower) ≤ℤ pos 64
 
--- at the fraction f / Q the formula lies from k − 0.51 to k + 0.51 thousandths: k − 0.51 ≤ 1000 · numerator / divisor ≤ k + 0.51, times 100 and
+-- at the fraction f / Q the formula lies from k − 0.51 to k + 0.51 thousandths: k − 0.51 ≤ 1000 · dividend / divisor ≤ k + 0.51, times 100 and
 -- times the divisor, which is above zero
 pub record Fits (t : Temperature) (d : ℕ) (k f : ℤ) : Type 0 where
   pub divides : pos 0 <ℤ divisor t f
-  pub least : ((pos 100 *ℤ k -ℤ pos 51) *ℤ divisor t f) ≤ℤ (pos 100000 *ℤ numerator t d f)
-  pub most : (pos 100000 *ℤ numerator t d f) ≤ℤ ((pos 100 *ℤ k +ℤ pos 51) *ℤ divisor t f)
+  pub least : ((pos 100 *ℤ k -ℤ pos 51) *ℤ divisor t f) ≤ℤ (pos 100000 *ℤ dividend t d f)
+  pub most : (pos 100000 *ℤ dividend t d f) ≤ℤ ((pos 100 *ℤ k +ℤ pos 51) *ℤ divisor t f)
 
 -- "23 the divisor not above zero at one of the fractions": of two that serve. Since the number alone is the answer, it does not say which two
 pub record NoDivisor (t : Temperature) (v : ℕ) : Type 0 where

@@ -3,8 +3,8 @@
 -- this file.
 --
 -- All is whole numbers from 0 up: n = f + 3·Q stands in the place of the numerator f, so that n / Q is at or below the logarithm of the number x of
--- thousandths, which is not below 0; and the constant is counted from −1000 thousandths, below its least value −905, so that what is divided and the
--- divisor together stand in the place of what is divided.
+-- thousandths, which is not below 0; and the constant is counted from −1000 thousandths, below its least value −905, so that the dividend and the
+-- divisor together stand in the place of the dividend.
 use Prim.Native.Nat.{ℕ, _+_, _*_, _-_, _/_}
 use mathlib.Core.Bool.{Bool, cond, _&&_}
 use lib.Dec.{ltb, eqb}
@@ -18,7 +18,7 @@ use Rattle.gravity_constant.specs.declared.answer.Constant.{Constant}
 use Rattle.gravity_constant.specs.declared.answer.ConstantAnswer.{ConstantAnswer}
 use Rattle.gravity_constant.specs.declared.answer.ConstantAnswer.the-variants.{Refused, Found}
 use Rattle.gravity_constant.specs.Questions.{refusal}
-use Rattle.gravity_constant.specs.Formula.{densityTaken, dividedSlope, divisorStart, divisorSlope, argument}
+use Rattle.gravity_constant.specs.Formula.{densityTaken, dividendSlope, divisorStart, divisorSlope, argument}
 
 -- ---- the fractions
 
@@ -65,9 +65,9 @@ lessLogarithm start slope n = (start + shift * slope) * Q-number - slope * n
 abbrev pub divisorAt : Temperature → ℕ → ℕ
 divisorAt t n = lessLogarithm (divisorStart t) (divisorSlope t) n
 
--- what is divided and the divisor together
+-- the dividend and the divisor together
 abbrev pub sumAt : Temperature → ℕ → ℕ → ℕ
-sumAt t d n = lessLogarithm (d + divisorStart t - densityTaken t) (dividedSlope t + divisorSlope t) n
+sumAt t d n = lessLogarithm (d + divisorStart t - densityTaken t) (dividendSlope t + divisorSlope t) n
 
 -- how many thousandths 1 has
 abbrev pub thousandths : ℕ

@@ -46,7 +46,7 @@ abbrev pub HasK : ConstantAnswer → ℤ → Type 0
 HasK (Refused number) k = ⊥
 HasK (Found c) k = c .thousandths ≡ k
 
--- k is forced at these: none of the values that formulas 1 and 2 have by hand is so close to a half that two k would fit
+-- k is forced at these oils, of which formulas 1 and 2 can be worked by hand: no value is so close to a half that two k would fit
 pub record ForcedConstants : Type 0 where
   -- at 40 °C: V 9.5 and G 0.87, 839.596 thousandths; V 46 and G 0.875, 814.736
   pub light : (a : ConstantAnswer) → RightConstant At40 9500 8700 a → HasK a (pos 840)

@@ -18,10 +18,10 @@ abbrev pub densityTaken : Temperature → ℕ
 densityTaken At40 = 664
 densityTaken At100 = 1080
 
--- 0.1154 and 0.1255, of the logarithm, in what is divided
-abbrev pub dividedSlope : Temperature → ℕ
-dividedSlope At40 = 1154
-dividedSlope At100 = 1255
+-- 0.1154 and 0.1255, of the logarithm, in the dividend
+abbrev pub dividendSlope : Temperature → ℕ
+dividendSlope At40 = 1154
+dividendSlope At100 = 1255
 
 -- 0.94 and 0.90, the divisor where the logarithm is 0
 abbrev pub divisorStart : Temperature → ℕ
@@ -37,9 +37,9 @@ divisorSlope At100 = 970
 abbrev pub argument : Temperature → ℕ → ℕ
 argument t v = v - viscosityTaken t
 
--- what is divided, times Q
-abbrev pub numerator : Temperature → ℕ → ℤ → ℤ
-numerator t d f = (pos d -ℤ pos (densityTaken t)) *ℤ pos Q -ℤ pos (dividedSlope t) *ℤ f
+-- the dividend, times Q
+abbrev pub dividend : Temperature → ℕ → ℤ → ℤ
+dividend t d f = (pos d -ℤ pos (densityTaken t)) *ℤ pos Q -ℤ pos (dividendSlope t) *ℤ f
 
 -- the divisor, times Q
 abbrev pub divisor : Temperature → ℤ → ℤ

@@ -4,7 +4,7 @@ use Rattle.gravity_constant.specs.declared.questions.Temperature.{Temper
 use Rattle.gravity_constant.specs.declared.questions.Oil.{Oil}
 use Rattle.gravity_constant.specs.Questions.{leastViscosity, greatestViscosity, leastDensity, greatestDensity}
 
--- between which numbers the limits keep what is computed, in units of Q: what a line in the logarithm falls from, and the divisor
+-- between which numbers the limits keep what is computed, in units of Q: start + 3·slope of a line at most, and the divisor at least
 abbrev pub mostTop : ℕ
 mostTop = 32768
 

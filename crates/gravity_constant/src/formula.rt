@@ -23,10 +23,10 @@ const DENSITY_TAKEN_40: u64 = 664;
 
 const DENSITY_TAKEN_100: u64 = 1_080;
 
-// 0.1154 and 0.1255, by which what is divided falls where the logarithm rises by 1.
-const DIVIDED_SLOPE_40: u64 = 1_154;
+// 0.1154 and 0.1255, by which the dividend falls where the logarithm rises by 1.
+const DIVIDEND_SLOPE_40: u64 = 1_154;
 
-const DIVIDED_SLOPE_100: u64 = 1_255;
+const DIVIDEND_SLOPE_100: u64 = 1_255;
 
 // 0.94 and 0.90, the divisor where the logarithm is 0.
 const DIVISOR_40: u64 = 9_400;
@@ -67,7 +67,7 @@ fn less_logarithm(start: u64, slope: u64, n: u64) -> u64
 }
 
 // The divisor.
-pub fn divisor_at(t: Temperature, n: u64) -> u64
+fn divisor_at(t: Temperature, n: u64) -> u64
     requires { ⌜ n ≤ mostUpper t ⌝ }
     ensures { λ r. ⌜ (r ≡ divisorAt t n) × (leastDivisor * Q-number ≤ r) × (r ≤ mostTop * Q-number) ⌝ }
 {
@@ -77,7 +77,7 @@ pub fn divisor_at(t: Temperature, n: u64) -> u64
     }
 }
 
-// What is divided and the divisor together: where the logarithm is greatest, what is divided may be below zero, and the sum never is.
+// The dividend and the divisor together: where the logarithm is greatest, the dividend may be below zero, and the sum never is.
 fn sum_at(t: Temperature, d: u32, n: u64) -> u64
     requires { ⌜ (leastDensity ≤ d) × (d ≤ greatestDensity) × (n ≤ mostUpper t) ⌝ }
     ensures { λ r. ⌜ (r ≡ sumAt t d n) × (r ≤ mostTop * Q-number) ⌝ }
@@ -86,12 +86,12 @@ fn sum_at(t: Temperature, d: u32, n: u64) -> u64
     match t {
         Temperature::At40 => less_logarithm(
             density + DIVISOR_40 - DENSITY_TAKEN_40,
-            DIVIDED_SLOPE_40 + DIVISOR_SLOPE_40,
+            DIVIDEND_SLOPE_40 + DIVISOR_SLOPE_40,
             n,
         ),
         Temperature::At100 => less_logarithm(
             density + DIVISOR_100 - DENSITY_TAKEN_100,
-            DIVIDED_SLOPE_100 + DIVISOR_SLOPE_100,
+            DIVIDEND_SLOPE_100 + DIVISOR_SLOPE_100,
             n,
         ),
     }
@@ -113,8 +113,8 @@ pub fn count_at(t: Temperature, d: u32, n: u64) -> u64
     nearest_thousandth(sum_at(t, d, n), divisor_at(t, n))
 }
 
-// Question 23, of one fraction: is the divisor above zero? It compares and does not subtract, as a question has to that may be answered no; by what n is
-// known to be it never is.
+// Question 23, of one fraction: is the divisor above zero? It compares and does not subtract, since a divisor below zero is no number of 64 bits without
+// sign. With n within its limit the answer is always yes.
 pub fn divides_at(t: Temperature, n: u64) -> bool
     requires { ⌜ n ≤ mostUpper t ⌝ }
     ensures { λ b. ⌜ b ≡ dividesAt t n ⌝ }

@@ -5,9 +5,8 @@
 // All is calculated on whole numbers from 0 up, on 64 bits. The logarithm runs from −3 to 6, so n = f + 3·Q stands in the place of the numerator f; the
 // constant runs from −905 to 2592 thousandths, so it is counted from −1000. The signs come at the end.
 //
-// The functions that calculate are lent the tables of the logarithm. Where a function comes twice, the one whose name ends in `_with_tables` is
-// lent them, and its twin copies them for one oil; both give the same answer. `answer_constant`, the operation, is the twin of
-// `answer_with_tables`.
+// The functions that need a logarithm are lent its tables. Where a function comes twice, the one whose name ends in `_with_tables` is lent them, and the other
+// copies them for one oil; both give the same answer. `answer_constant`, the operation, is the other of `answer_with_tables`.
 mod answer;
 mod formula;
 mod fractions;

@@ -1,4 +1,4 @@
-// Laws of arithmetic, orders, powers and differences (proofs/), numbers that several crates name (specs/), and the one step of arithmetic that
+// Laws of arithmetic, orders, powers and differences (proofs/), what several crates' definitions name (specs/), and the one step of arithmetic that
 // several crates take.
 ghost use mathlib.Core.Path.{_≡_};
 ghost use Prim.Native.Nat.{_<_};

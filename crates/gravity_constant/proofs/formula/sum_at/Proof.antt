@@ -1,4 +1,4 @@
--- What is divided and the divisor together: never below zero, by the limits of n and of the density.
+-- The dividend and the divisor together: never below zero, by the limits of n and of the density.
 use Prim.Native.Nat.{_≤_}
 use mathlib.Core.Path.{subst}
 use native.Mathlib.Omega.{arith}
