@@ -61,7 +61,7 @@
 #define VI_CONSTANT_SIZE 3u  /* numbers, not bytes */
 #define VI_CONSTANT_K 0u     /* k, the constant in thousandths, from -905 to 2592: the formula lies from k - 0.51 to k + 0.51 thousandths */
 #define VI_CONSTANT_LOWER 1u /* with the logarithm taken as lower / VI_Q, which is at or below it, and as upper / VI_Q, which is at or above */
-#define VI_CONSTANT_UPPER 2u /* it. lower and upper are at most 64 apart. VI_Q has no sign: divide by (double)VI_Q or (int32_t)VI_Q. */
+#define VI_CONSTANT_UPPER 2u /* it. lower and upper are at most 64 apart. VI_Q has no sign: divide by (double)VI_Q. */
 
 /* A sheet's header: four 32-bit numbers, at these offsets. The blocks stand in either order, with other bytes between. */
 #define VI_HEADER_SIZE 16u    /* bytes */
@@ -90,7 +90,7 @@
 #define VI_METHOD_B_SETTLED 2u /* u below H: the standard's exact value is from k - 0.5 to k + 0.5, k the index */
 #define VI_METHOD_B_NEAR 3u    /* u below H: it is from k - 0.51 to k - 0.49, too close to a half to say more */
 
-/* p / Q and P / Q enclose the standard's N, and a constant's two fractions its logarithm; whole-number powers show it. The index by B is at
+/* p / Q and P / Q enclose the standard's N, and a constant's two fractions the logarithm in its formula; whole-number powers show it. The index by B is at
    most 10,000. */
 #define VI_Q 16777216u
 #define VI_INDEX_B_GREATEST 10000
