@@ -1,5 +1,5 @@
 -- What #101's words force, from `refusal` and `RightConstant` alone, with no program in it: a program that answers otherwise is refuted, whatever proof is
--- offered for it. proofs/Forced.antt shows it.
+-- offered for it. proofs/Forced.antt shows it, and proofs/LeftFree.antt what is left free.
 use Prim.Native.Nat.{ℕ, _<_}
 use mathlib.Core.Path.{_≡_}
 use lib.IntN.{ℤ, pos, negsuc, _+ℤ_}

@@ -1,7 +1,7 @@
 -- Formulas 1 and 2 of source document 001, G the density in g/ml, V and V′ the viscosities in mm²/s, log to the base 10:
 --   formula 1, at 40 °C    (G − 0.0664 − 0.1154·log(V − 5.5)) / (0.94 − 0.109·log(V − 5.5))
 --   formula 2, at 100 °C   (G − 0.108 − 0.1255·log(V′ − 0.8)) / (0.90 − 0.097·log(V′ − 0.8))
--- The logarithm is taken as f / Q. The viscosity is in thousandths, all else in 0.0001, and both sides of the quotient are taken times Q.
+-- The logarithm is taken as f / Q. The viscosity is in thousandths, all else in 0.0001, and the dividend and the divisor are both taken times Q.
 use Prim.Native.Nat.{ℕ, _-_}
 use lib.IntN.{ℤ, pos, _-ℤ_, _*ℤ_}
 use Rattle.logarithm.specs.Fractions.{Q}
