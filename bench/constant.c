@@ -15,15 +15,15 @@
 #include <stdio.h>
 #include <stdlib.h>
 #include <string.h>
-#include <time.h>
 
+#include "measure.h"
 #include "viscosity_index.h"
 
 /* A slice is passed as its address and its length. */
 void constants_40(const uint32_t *viscosities, size_t n, const uint32_t *densities, size_t m, int32_t *out, size_t places);
 void constants_100(const uint32_t *viscosities, size_t n, const uint32_t *densities, size_t m, int32_t *out, size_t places);
 
-enum { OILS = 2000, ROW = 3, REPEATS = 9, PASSES = 400, MIXES = 4 };
+enum { OILS = 2000, ROW = VI_CONSTANT_SIZE, PASSES = 400, MIXES = 4 };
 
 struct oils {
     const char *name;
@@ -42,22 +42,6 @@ static struct oils mixes[MIXES] = {
 
 static int32_t plain_k[OILS], rows[OILS][ROW];
 static volatile int64_t sink;
-
-static double random_unit(void)
-{
-    static uint64_t state = 88172645463325252ull;
-    state ^= state << 13;
-    state ^= state >> 7;
-    state ^= state << 17;
-    return (double)(state >> 11) / 9007199254740992.0;
-}
-
-static double now(void)
-{
-    struct timespec t;
-    clock_gettime(CLOCK_MONOTONIC, &t);
-    return (double)t.tv_sec * 1e9 + (double)t.tv_nsec;
-}
 
 /* viscosities even in their logarithm, densities even */
 static void draw(struct oils *oils)
@@ -184,19 +168,6 @@ static double ns_a_constant(const char *what, const struct oils *o)
     for (int i = 0; i < PASSES; i++)
         pass(what, o);
     return (now() - start) / PASSES / OILS;
-}
-
-static int by_size(const void *x, const void *y)
-{
-    double d = *(const double *)x - *(const double *)y;
-    return (d > 0) - (d < 0);
-}
-
-/* the median of the repeats, with the least and the greatest */
-static void report(const char *what, double *values)
-{
-    qsort(values, REPEATS, sizeof *values, by_size);
-    printf("  %-34s %9.2f  (%.2f to %.2f)\n", what, values[REPEATS / 2], values[0], values[REPEATS - 1]);
 }
 
 static void time_all(const struct oils *o)

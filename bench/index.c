@@ -13,34 +13,17 @@
 #include <stdio.h>
 #include <stdlib.h>
 #include <string.h>
-#include <time.h>
 
+#include "measure.h"
 #include "viscosity_index.h"
 #include "table.h"
 
-enum { PAIRS = 2000, REPEATS = 9 };
+enum { PAIRS = 2000 };
 
 struct oils {
     const char *name;
     uint32_t u[PAIRS], y[PAIRS];
 };
-
-static uint64_t state = 88172645463325252ull;
-
-static double random_unit(void)
-{
-    state ^= state << 13;
-    state ^= state >> 7;
-    state ^= state << 17;
-    return (double)(state >> 11) / 9007199254740992.0;
-}
-
-static double now(void)
-{
-    struct timespec t;
-    clock_gettime(CLOCK_MONOTONIC, &t);
-    return (double)t.tv_sec * 1e9 + (double)t.tv_nsec;
-}
 
 /* ---- plain C: the row by its spacing, a straight line, formulas 3, 6 and 7 in double */
 
@@ -210,19 +193,6 @@ static double ns_a_pair(const char *what, const struct oils *oils, int n, int pa
     for (int i = 0; i < passes; i++)
         pass(what, oils, n);
     return (now() - start) / passes / pairs;
-}
-
-static int by_size(const void *x, const void *y)
-{
-    double d = *(const double *)x - *(const double *)y;
-    return (d > 0) - (d < 0);
-}
-
-/* the median of the repeats, with the least and the greatest */
-static void report(const char *what, double *values)
-{
-    qsort(values, REPEATS, sizeof *values, by_size);
-    printf("  %-34s %9.2f  (%.2f to %.2f)\n", what, values[REPEATS / 2], values[0], values[REPEATS - 1]);
 }
 
 /* how many of the oils are below H, and how many of those have an index that the table of thresholds does not reach */
