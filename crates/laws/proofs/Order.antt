@@ -1,4 +1,4 @@
--- A proof by cases on the order of two numbers, when two tests of an order are one, and that a quotient keeps an order.
+-- A proof by cases on a test and on the order of two numbers, when two tests of an order are one, and that a quotient keeps an order.
 use Prim.Native.Nat.{ℕ, _/_, _<_, _≤_}
 use mathlib.Core.Path.{_≡_, refl, _∙_, sym}
 use mathlib.Core.Bool.{Bool, true, false}
@@ -8,12 +8,12 @@ use native.Mathlib.Omega.{arith}
 use native.Mathlib.Nat.{div-mul-le-self, le-div-iff-mul-le, div-zero, le-trans, eq-zero-or-pos}
 use borrow.Author.Tests.{ltb-true, ltb-false, le-leb, lt-leb}
 
-by : {P : Type 0} (a b : ℕ) (t : Bool) → ltb a b ≡ t → (a < b → P) → (b ≤ a → P) → P
-by a b true e f g = f (ltb-true a b e)
-by a b false e f g = g (ltb-false a b e)
+pub by-test : {P : Type 0} (b : Bool) → (b ≡ true → P) → (b ≡ false → P) → P
+by-test true f g = f refl
+by-test false f g = g refl
 
 pub by-order : {P : Type 0} (a b : ℕ) → (a < b → P) → (b ≤ a → P) → P
-by-order a b f g = by a b (ltb a b) refl f g
+by-order a b f g = by-test (ltb a b) (λ e. f (ltb-true a b e)) (λ e. g (ltb-false a b e))
 
 pub leb-same : (a b c d : ℕ) → (a ≤ b → c ≤ d) → (c ≤ d → a ≤ b) → leb a b ≡ leb c d
 leb-same a b c d f g =
