@@ -10,7 +10,7 @@ ghost use Rattle.answer_record.specs.Record.{resultSize, laidOut, record
 pub use bytes::number_at;
 use bytes::store_four;
 use bytes::store_number;
-use bytes::twos_complement;
+pub use bytes::twos_complement;
 use index::answer::ANSWERED;
 use index::answer::Answer;
 use index::answer::METHOD_A;

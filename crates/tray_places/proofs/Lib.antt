@@ -1,0 +1,6 @@
+-- The laws of the places.
+pub mod First
+pub mod Held
+pub mod Kept
+pub mod SamplesBack
+pub mod Signs

@@ -1,0 +1,87 @@
+-- Change request #102: "A tray holds up to 64 samples". A tray is the list of its numbers: 64 places of eight, and of a place the first number is 0 where
+-- it is free. Memory of zeros is the empty tray.
+use Prim.Native.Nat.{ℕ, zero, suc, _+_, _*_}
+use mathlib.Core.Bool.{Bool, cond, not, _&&_}
+use mathlib.Core.List.{List, [], _∷_, _++_}
+use lib.Dec.{eqb, ltb}
+use lib.ListN.{getD, replicate}
+use Rattle.tray_places.specs.declared.samples.Sample.{Sample}
+use Rattle.tray_places.specs.declared.samples.Place.{Place}
+use Rattle.tray_places.specs.Samples.{sampleOf}
+
+-- how many places a tray has, how many numbers a place, and how many numbers the tray
+abbrev pub places : ℕ
+places = 64
+
+abbrev pub placeSize : ℕ
+placeSize = 8
+
+abbrev pub traySize : ℕ
+traySize = 512
+
+unfoldable pub emptyTray : List ℕ
+emptyTray = replicate traySize 0
+
+-- ---- one place
+
+-- the numbers of a place, the last of which no field has taken yet
+unfoldable pub numbersOf : Place → List ℕ
+numbersOf p = p .method ∷ p .number ∷ p .u ∷ p .y ∷ p .index ∷ p .lower ∷ p .upper ∷ 0 ∷ []
+
+-- what is stored to free a place: its other numbers stay
+unfoldable pub freed : List ℕ
+freed = 0 ∷ []
+
+-- the method in place i, and the number
+abbrev pub methodIn : List ℕ → ℕ → ℕ
+methodIn tray i = getD tray (placeSize * i) 0
+
+abbrev pub numberIn : List ℕ → ℕ → ℕ
+numberIn tray i = getD tray (placeSize * i + 1) 0
+
+-- what place i holds
+abbrev pub placeAt : List ℕ → ℕ → Place
+placeAt tray i = record {
+  method = methodIn tray i;
+  number = numberIn tray i;
+  u = getD tray (placeSize * i + 2) 0;
+  y = getD tray (placeSize * i + 3) 0;
+  index = getD tray (placeSize * i + 4) 0;
+  lower = getD tray (placeSize * i + 5) 0;
+  upper = getD tray (placeSize * i + 6) 0;
+}
+
+abbrev pub sampleAt : List ℕ → ℕ → Sample
+sampleAt tray i = sampleOf (placeAt tray i)
+
+-- is place i free, is it held, and is a sample of that number held there?
+abbrev pub isFree : List ℕ → ℕ → Bool
+isFree tray i = eqb (methodIn tray i) 0
+
+abbrev pub isHeld : List ℕ → ℕ → Bool
+isHeld tray i = not (isFree tray i)
+
+abbrev pub isHeldAs : List ℕ → ℕ → ℕ → Bool
+isHeldAs tray number i = isHeld tray i && eqb (numberIn tray i) number
+
+-- ---- all places
+
+-- the first of the places 0 to n − 1 that passes the test; n where none does
+unfoldable pub first : (ℕ → Bool) → ℕ → ℕ
+first test zero = zero
+first test (suc n) = cond (ltb (first test n) n) (first test n) (cond (test n) n (suc n))
+
+-- the place of the sample of that number, and the first free place; 64 where there is none
+unfoldable pub placeOfNumber : List ℕ → ℕ → ℕ
+placeOfNumber tray number = first (isHeldAs tray number) places
+
+unfoldable pub freePlace : List ℕ → ℕ
+freePlace tray = first (isFree tray) places
+
+-- the samples of the held places among the first n, and those that a tray holds
+unfoldable pub among : (ℕ → Bool) → (ℕ → Sample) → ℕ → List Sample
+among held sample zero = []
+among held sample (suc i) = among held sample i ++ cond (held i) (sample i ∷ []) []
+
+unfoldable pub heldIn : List ℕ → List Sample
+heldIn tray = among (isHeld tray) (sampleAt tray) places
