@@ -1,5 +1,5 @@
--- The samples held in the places: what changes when one place does.
-use Prim.Native.Nat.{ℕ, zero, suc, _+_, _<_}
+-- The samples held in the places: how many pass a test, and what changes when one place does.
+use Prim.Native.Nat.{ℕ, zero, suc, _+_, _≤_, _<_}
 use mathlib.Core.Path.{_≡_, refl, sym, ap, _∙_}
 use mathlib.Core.Bool.{Bool, true, false}
 use mathlib.Core.List.{List, [], _∷_, _++_}
@@ -57,11 +57,48 @@ module _ (h : ℕ → Bool) (s : ℕ → Sample) where
         times-held n e ∙ omega arith)
         (λ e. times-free n e ∙ before)
 
+    -- one that passes it
+    pub some-among : (k n : ℕ) → k < n → h k ≡ true → test (s k) ≡ true → 0 < times test (among h s n)
+    some-among k zero l e t = absurd (omega arith)
+    some-among k (suc n) l e t =
+        by-order k n
+        (λ b.
+        let before : 0 < times test (among h s n) = some-among k n b e t in
+        by-test (h n) (λ y. omega (arith, times-held n y)) (λ z. omega (arith, times-free n z)))
+        (λ b.
+        let is : k ≡ n = omega arith in
+        let passes : one (test (s n)) ≡ 1 = ap one (rw is at t) in
+        omega (arith, times-held n (rw is at e)))
+
+  length-free : (i : ℕ) → h i ≡ false → length (among h s (suc i)) ≡ length (among h s i)
+  length-free i e = ap length (next-free i e) ∙ length-append (among h s i) [] ∙ omega arith
+
+  length-held : (i : ℕ) → h i ≡ true → length (among h s (suc i)) ≡ suc (length (among h s i))
+  length-held i e = ap length (next-held i e) ∙ length-append (among h s i) (s i ∷ []) ∙ omega arith
+
+  most-among : (n : ℕ) → length (among h s n) ≤ n
+  most-among zero = omega (arith, ap length among-zero)
+  most-among (suc n) =
+      by-test (h n) (λ e. omega (arith, length-held n e, most-among n)) (λ e. omega (arith, length-free n e, most-among n))
+
+  -- one place is free
+  pub free-among : (k n : ℕ) → k < n → h k ≡ false → length (among h s n) < n
+  free-among k zero l e = absurd (omega arith)
+  free-among k (suc n) l e =
+      by-order k n
+      (λ b.
+      let before = free-among k n b e in
+      by-test (h n) (λ y. omega (arith, length-held n y)) (λ z. omega (arith, length-free n z)))
+      (λ b.
+      let is : k ≡ n = omega arith in
+      omega (arith, length-free n (rw is at e), most-among n))
+
+  -- all are held, and none is
   pub all-among : (n : ℕ) → ((k : ℕ) → k < n → h k ≡ true) → length (among h s n) ≡ n
   all-among zero f = ap length among-zero
   all-among (suc n) f =
       let before : length (among h s n) ≡ n = all-among n (λ k l. f k (omega arith)) in
-      ap length (next-held n (f n (omega arith))) ∙ length-append (among h s n) (s n ∷ []) ∙ omega arith
+      omega (arith, length-held n (f n (omega arith)))
 
   pub none-held : (n : ℕ) → ((k : ℕ) → k < n → h k ≡ false) → among h s n ≡ []
   none-held zero f = among-zero

@@ -2,5 +2,6 @@
 pub mod First
 pub mod Held
 pub mod Kept
+pub mod Found
 pub mod SamplesBack
 pub mod Signs

@@ -74,7 +74,14 @@ pub fn store_place(tray: &mut [u32], i: usize, place: Place)
 {
     let at = PLACE_SIZE * i;
     store_half(tray, at, place.method, place.number, place.u, place.y);
-    store_half(tray, at + INDEX_AT, place.index, place.lower, place.upper, SPARE);
+    store_half(
+        tray,
+        at + INDEX_AT,
+        place.index,
+        place.lower,
+        place.upper,
+        SPARE,
+    );
 }
 
 // Frees place i.

@@ -1,5 +1,6 @@
 -- One half behind the other.
 use Prim.Native.Nat.{_*_}
+use mathlib.Core.List.{[], _∷_}
 use native.Mathlib.Omega.{arith}
 use Rattle.answer_record.proofs.Stores.{stored-then}
 use Rattle.tray_places.specs.Places.{placeSize, numbersOf}
@@ -27,8 +28,9 @@ unfolding numbersOf
 returns c =
     let second = c .before .before in
     let first = second .before .before .before .before in
-    let start = first .before .before in
-    stored-then (start .args .tray .now) _ _ (placeSize * start .args .i) (first .store-half .ensures) (omega arith) (second .store-half2 .ensures)
+    let start = first .before .before .before in
+    let p = start .args .place in
+    stored-then (start .args .tray .now) (p .method ∷ p .number ∷ p .u ∷ p .y ∷ []) _ (placeSize * start .args .i) (first .store-half .ensures) (omega arith) (second .store-half2 .ensures)
 
 pub store-place-spec : {M : Type 1} → statement M
 store-place-spec =

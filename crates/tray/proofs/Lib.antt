@@ -1,0 +1,3 @@
+-- The laws of the tray.
+pub mod Questions
+pub mod Walk

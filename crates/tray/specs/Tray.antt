@@ -1,0 +1,84 @@
+-- Change request #102: what putting in and taking out answer, and the tray afterwards. "Refused: 31 number already held, 32 tray full, both after the pair's own
+-- questions; 33 number not held, on taking out." The lent memory is asked for its size first, as document 01 asks the pair's record.
+use Prim.Native.Nat.{ℕ, _*_}
+use mathlib.Core.Bool.{Bool, cond}
+use mathlib.Core.List.{List}
+use lib.Dec.{eqb, ltb}
+use lib.ListN.{length}
+use Rattle.laws.specs.Questions.{ask}
+use Rattle.index.specs.declared.answer.Answer.{Answer}
+use Rattle.index.specs.declared.answer.Answer.the-variants as answer
+use Rattle.index.specs.Questions.{refusal}
+use Rattle.index.specs.ChosenAnswer.{answerOf}
+use Rattle.answer_record.specs.Bytes.{stored}
+use Rattle.tray_places.specs.declared.samples.Sample.{Sample}
+use Rattle.tray_places.specs.Samples.{placeOf}
+use Rattle.tray_places.specs.Places.{places, placeSize, traySize, numbersOf, freed, sampleAt, placeOfNumber, freePlace, heldIn}
+use Rattle.tray_places.specs.Counts.{times, numbered}
+use Rattle.tray.specs.declared.Taken.{Taken}
+use Rattle.tray.specs.declared.Taken.the-variants.{Refused, Out}
+
+-- ---- the questions
+
+-- is the lent memory as large as a tray?
+abbrev pub isTray : List ℕ → Bool
+isTray tray = eqb (length tray) traySize
+
+-- how many samples held have the number
+abbrev pub heldAs : List ℕ → ℕ → ℕ
+heldAs tray number = times (numbered number) (heldIn tray)
+
+-- the number of a question that has refused already, or else of those that follow
+abbrev pub orElse : ℕ → ℕ → ℕ
+orElse number following = cond (eqb number 0) following number
+
+-- the questions to an answered pair; 0 where none refuses
+unfoldable pub holdRefusal : List ℕ → ℕ → ℕ
+holdRefusal tray number =
+    -- "31 number already held"
+    ask (eqb (heldAs tray number) 0) 31
+    -- "32 tray full"
+    (ask (ltb (length (heldIn tray)) places) 32 0)
+
+-- the questions to a put, "both after the pair's own"
+unfoldable pub putRefusal : List ℕ → ℕ → ℕ → ℕ → ℕ
+putRefusal tray number u y = ask (isTray tray) 5 (orElse (refusal u y) (holdRefusal tray number))
+
+-- the questions to a take: "33 number not held"
+unfoldable pub takeRefusal : List ℕ → ℕ → ℕ
+takeRefusal tray number = ask (isTray tray) 5 (ask (ltb 0 (heldAs tray number)) 33 0)
+
+-- ---- putting in
+
+abbrev pub sampleWith : ℕ → ℕ → ℕ → Answer → Sample
+sampleWith number u y a = record { number = number; u = u; y = y; answer = a }
+
+-- the tray with a sample more, in its first free place
+abbrev pub trayWith : List ℕ → Sample → List ℕ
+trayWith tray s = stored tray (placeSize * freePlace tray) (numbersOf (placeOf s))
+
+-- of an answered pair: its answer and the tray that holds it; or refused, and the tray as it was
+unfoldable pub holdAnswer : List ℕ → ℕ → Answer → Answer
+holdAnswer tray number a = cond (eqb (holdRefusal tray number) 0) a (answer.Refused (holdRefusal tray number))
+
+unfoldable pub trayHolding : List ℕ → ℕ → ℕ → ℕ → Answer → List ℕ
+trayHolding tray number u y a = cond (eqb (holdRefusal tray number) 0) (trayWith tray (sampleWith number u y a)) tray
+
+-- "Putting in takes a number, u and y and gives the pair's answer"
+unfoldable pub putAnswer : List ℕ → ℕ → ℕ → ℕ → Answer
+putAnswer tray number u y = cond (eqb (putRefusal tray number u y) 0) (answerOf u y) (answer.Refused (putRefusal tray number u y))
+
+-- "A refused call changes nothing"
+unfoldable pub trayAfterPut : List ℕ → ℕ → ℕ → ℕ → List ℕ
+trayAfterPut tray number u y = cond (eqb (putRefusal tray number u y) 0) (trayWith tray (sampleWith number u y (answerOf u y))) tray
+
+-- ---- taking out
+
+-- "taking out takes a number and gives the pair and answer held under it"
+unfoldable pub takeAnswer : List ℕ → ℕ → Taken
+takeAnswer tray number =
+    cond (eqb (takeRefusal tray number) 0) (Out (sampleAt tray (placeOfNumber tray number))) (Refused (takeRefusal tray number))
+
+unfoldable pub trayAfterTake : List ℕ → ℕ → List ℕ
+trayAfterTake tray number =
+    cond (eqb (takeRefusal tray number) 0) (stored tray (placeSize * placeOfNumber tray number) freed) tray
