@@ -35,3 +35,13 @@ by-questions u y refused all =
 
 pub passes : (u y : ℕ) → refusal u y ≡ 0 → Passes u y
 passes u y e = by-questions u y (λ n r p. absurd (omega arith)) (λ a. a)
+
+-- a refused pair's number is one of 1 to 4
+pub number-most : (u y : ℕ) → refusal u y ≤ 4
+number-most u y =
+    by-order y least100 (λ a. omega (arith, refused-1 u y a))
+    (λ a. by-order greatest100 y (λ b. omega (arith, refused-2 u y a b))
+    (λ b. by-order greatest40 u (λ d. omega (arith, refused-3 u y a b d))
+    (λ d. by-order y u
+    (λ e. omega (arith, none-refuses u y (record { least = a; most = b; thickest = d; thicker = e })))
+    (λ e. omega (arith, refused-4 u y a b d e)))))

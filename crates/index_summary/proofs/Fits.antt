@@ -1,6 +1,6 @@
 -- The numbers of a summary fit their fields: what a sum with sign may come to, what 64 bits read back, and what holds of a summary with one answer more.
 use Prim.Native.Nat.{ℕ, suc, _+_, _*_, _≤_, _<_}
-use mathlib.Core.Path.{_≡_, sym, ap, _∙_}
+use mathlib.Core.Path.{_≡_}
 use mathlib.Core.Bool.{Bool}
 use native.Mathlib.Omega.{arith}
 use borrow.Author.Needs.{sfits-of}

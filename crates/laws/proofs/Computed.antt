@@ -1,5 +1,5 @@
 -- Tests that the checker computes over a whole range or a whole table, and the laws from such a test to each number or entry.
-use mathlib.Core.Path.{_≡_, _∙_, subst, sym}
+use mathlib.Core.Path.{_≡_, refl, _∙_, subst, sym}
 use mathlib.Core.Bool.{Bool, true, false, _&&_}
 use mathlib.Core.List.{List, [], _∷_}
 use mathlib.Core.Logic.{⊎-elim}
@@ -7,6 +7,7 @@ use Prim.Native.Nat.{ℕ, zero, suc, _+_, _<_}
 use native.Mathlib.Nat.{add-zero, zero-add, add-suc, suc-add, le-of-suc-le-suc, not-suc-le-zero, eq-or-lt-of-le}
 use lib.Dec.{T}
 use lib.ListN.{length, getD}
+use Rattle.laws.proofs.Contradiction.{impossible}
 
 -- ---- two tests as one
 
@@ -17,6 +18,10 @@ and-left false b t = t
 pub and-right : (a b : Bool) → T (a && b) → T b
 and-right true b t = t
 and-right false b t = absurd t
+
+pub both-pass : (a b : Bool) → (a && b) ≡ true → (a ≡ true) × (b ≡ true)
+both-pass true b h = (refl, h)
+both-pass false b h = impossible cc
 
 -- ---- a test at each number below n
 

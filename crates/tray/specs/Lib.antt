@@ -1,4 +1,6 @@
--- The definitions that the contracts of the tray cite, in the order to read them in.
+-- The definitions that the contracts of the tray cite, and what holds of them over every list of calls, in the order to read them in.
 pub mod Tray
 pub mod State
+pub mod Calls
+pub mod EveryListOfCalls
 pub mod Preconditions

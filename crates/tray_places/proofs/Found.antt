@@ -1,32 +1,31 @@
 -- What finding a place says of the samples held, and what is held after a store in a place.
 use Prim.Native.Nat.{ℕ, _+_, _*_, _≤_, _<_}
-use mathlib.Core.Path.{_≡_, refl, sym, ap, _∙_}
-use mathlib.Core.Bool.{Bool, true, false, not, _&&_}
+use mathlib.Core.Path.{_≡_, sym, ap}
+use mathlib.Core.Bool.{Bool, true, false, not}
 use mathlib.Core.List.{List, []}
 use mathlib.Core.Logic.{_⊎_, inl, inr}
 use native.Mathlib.Omega.{arith}
 use borrow.Author.Tests.{eqb-true}
 use lib.Dec.{eqb}
 use lib.ListN.{length, replicate, length-replicate, getD-replicate}
-use Rattle.laws.proofs.Contradiction.{impossible}
+use Rattle.laws.proofs.Computed.{both-pass}
 use Rattle.laws.proofs.Order.{by-order}
 use Rattle.answer_record.specs.Bytes.{stored}
 use Rattle.tray_places.specs.declared.samples.Sample.{Sample}
-use Rattle.tray_places.specs.declared.samples.Place.{Place}
 use Rattle.tray_places.specs.Samples.{sampleOf}
 use Rattle.tray_places.specs.Places.{places, placeSize, traySize, emptyTray, isFree, isHeld, isHeldAs, numberIn, sampleAt, placeOfNumber, freePlace, heldIn}
 use Rattle.tray_places.specs.Counts.{one, times, numbered}
 use Rattle.tray_places.proofs.First.{first-passes, none-passes}
-use Rattle.tray_places.proofs.Held.{none-among, some-among, free-among, all-among, none-held, one-more}
+use Rattle.tray_places.proofs.Held.{none-among, some-among, most-among, free-among, all-among, none-held, one-more}
 use Rattle.tray_places.proofs.Kept.{place-same, held-same}
-
-both : (a b : Bool) → (a && b) ≡ true → (a ≡ true) × (b ≡ true)
-both true b h = (refl, h)
-both false b h = impossible cc
 
 -- ---- finding a place
 
 module _ (l : List ℕ) where
+  pub held-most : length (heldIn l) ≤ places
+  unfolding heldIn
+  held-most = most-among (isHeld l) (sampleAt l) places
+
   pub free-is-free : freePlace l < places → isHeld l (freePlace l) ≡ false
   unfolding freePlace
   free-is-free k = ap not (first-passes (isFree l) places k)
@@ -47,10 +46,10 @@ module _ (l : List ℕ) where
     found k = first-passes (isHeldAs l n) places k
 
     pub found-is-held : placeOfNumber l n < places → isHeld l (placeOfNumber l n) ≡ true
-    found-is-held k = both (isHeld l (placeOfNumber l n)) (eqb (numberIn l (placeOfNumber l n)) n) (found k) .0
+    found-is-held k = both-pass (isHeld l (placeOfNumber l n)) (eqb (numberIn l (placeOfNumber l n)) n) (found k) .0
 
     found-by-number : placeOfNumber l n < places → eqb (numberIn l (placeOfNumber l n)) n ≡ true
-    found-by-number k = both (isHeld l (placeOfNumber l n)) (eqb (numberIn l (placeOfNumber l n)) n) (found k) .1
+    found-by-number k = both-pass (isHeld l (placeOfNumber l n)) (eqb (numberIn l (placeOfNumber l n)) n) (found k) .1
 
     pub found-number : placeOfNumber l n < places → sampleAt l (placeOfNumber l n) .number ≡ n
     found-number k = eqb-true (numberIn l (placeOfNumber l n)) n (found-by-number k)

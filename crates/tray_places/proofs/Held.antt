@@ -76,7 +76,7 @@ module _ (h : ℕ → Bool) (s : ℕ → Sample) where
   length-held : (i : ℕ) → h i ≡ true → length (among h s (suc i)) ≡ suc (length (among h s i))
   length-held i e = ap length (next-held i e) ∙ length-append (among h s i) (s i ∷ []) ∙ omega arith
 
-  most-among : (n : ℕ) → length (among h s n) ≤ n
+  pub most-among : (n : ℕ) → length (among h s n) ≤ n
   most-among zero = omega (arith, ap length among-zero)
   most-among (suc n) =
       by-test (h n) (λ e. omega (arith, length-held n e, most-among n)) (λ e. omega (arith, length-free n e, most-among n))

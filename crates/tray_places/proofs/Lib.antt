@@ -3,5 +3,6 @@ pub mod First
 pub mod Held
 pub mod Kept
 pub mod Found
+pub mod Same
 pub mod SamplesBack
 pub mod Signs

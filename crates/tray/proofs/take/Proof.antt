@@ -1,5 +1,5 @@
 -- By the size and question 33.
-use mathlib.Core.Path.{_≡_, ap, _∙_}
+use mathlib.Core.Path.{ap, _∙_}
 use Rattle.tray_places.specs.Samples.{sampleOf}
 use Rattle.tray.proofs.Questions.{take-5, take-33, take-out}
 use borrow.Author.Needs.{needs}

@@ -1,5 +1,5 @@
 -- Held, and by its number.
-use mathlib.Core.Path.{_≡_, sym, _∙_}
+use mathlib.Core.Path.{sym, _∙_}
 use borrow.Author.Needs.{needs}
 use Rattle.tray_places.proofs.is_held_as.Statement.{statement}
 use Rattle.tray_places.proofs.is_held_as.Tie as tie

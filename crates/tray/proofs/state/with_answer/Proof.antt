@@ -1,5 +1,5 @@
 -- By the case of the state.
-use mathlib.Core.Path.{_≡_, sym, ap, _∙_}
+use mathlib.Core.Path.{sym, ap, _∙_}
 use native.Mathlib.Omega.{arith}
 use Rattle.index_summary.proofs.Fits.{within-more}
 use Rattle.index_summary.specs.Preconditions.{most}

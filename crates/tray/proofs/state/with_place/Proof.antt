@@ -1,6 +1,6 @@
 -- Free, or with the answer of its sample.
 use Prim.Native.Nat.{ℕ, _<_}
-use mathlib.Core.Path.{_≡_, sym, ap, _∙_}
+use mathlib.Core.Path.{sym, ap, _∙_}
 use native.Mathlib.Omega.{arith}
 use lib.ListN.{getD}
 use Rattle.laws.specs.Bits.{span32}

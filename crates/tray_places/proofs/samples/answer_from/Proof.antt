@@ -1,5 +1,5 @@
 -- By the method.
-use mathlib.Core.Path.{_≡_, ap, _∙_}
+use mathlib.Core.Path.{ap, _∙_}
 use borrow.Author.Tests.{eq-eqb, ne-eqb}
 use Rattle.tray_places.specs.Samples.{answerFrom}
 use borrow.Author.Needs.{needs, sfits-of}

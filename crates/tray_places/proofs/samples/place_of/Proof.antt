@@ -1,5 +1,5 @@
 -- By the case of the answer.
-use mathlib.Core.Path.{_≡_, sym, ap, _∙_}
+use mathlib.Core.Path.{sym, ap, _∙_}
 use Rattle.index.specs.declared.answer.Answer.{Answer}
 use Rattle.index.specs.Answer.{indexOf, lowerOf, upperOf}
 use Rattle.answer_record.specs.Bytes.{twosComplement}
