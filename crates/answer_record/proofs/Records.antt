@@ -10,6 +10,7 @@ use Rattle.shown_index.specs.declared.ByB.{ByB}
 use Rattle.index.specs.Answer.{methodOfMark}
 use Rattle.answer_record.specs.Bytes.{bytesOf, twosComplement, stored}
 use Rattle.answer_record.specs.Record.{resultSize, headOf, laidOut, recordOf}
+use Rattle.answer_record.proofs.Stores.{stored-whole}
 
 pub length-laid-out : (number method index lower upper : ℕ) → length (laidOut number method index lower upper) ≡ resultSize
 unfolding laidOut headOf bytesOf
@@ -17,6 +18,10 @@ length-laid-out number method index lower upper = refl
 
 pub length-record : (a : Answer) → length (recordOf a) ≡ resultSize
 length-record a = length-laid-out _ _ _ _ _
+
+-- 16 bytes: all of them are the record that was stored from their start on
+pub whole : (lent after : List ℕ) (a : Answer) → length lent ≡ resultSize → after ≡ stored lent 0 (recordOf a) → after ≡ recordOf a
+whole lent after a h e = e ∙ stored-whole lent (recordOf a) (length-record a ∙ sym h)
 
 -- the record of each case, from its fields
 module _ (l l′ : List ℕ) (at : ℕ) {a : Answer} where

@@ -70,7 +70,7 @@ sum-last [] y = +ℤ-idr (indexOf y) ∙ sym (+ℤ-idl (indexOf y))
 sum-last (x ∷ xs) y =
     ap (λ (z : ℤ). indexOf x +ℤ z) (sum-last xs y) ∙ sym (+ℤ-assoc (indexOf x) (sumOf xs) (indexOf y))
 
-count-last : (method : ℕ) (xs : List Answer) (y : Answer) → countOf method (xs ++ (y ∷ [])) ≡ countOf method xs + one (methodOf y) method
+pub count-last : (method : ℕ) (xs : List Answer) (y : Answer) → countOf method (xs ++ (y ∷ [])) ≡ countOf method xs + one (methodOf y) method
 unfolding countOf
 count-last method [] y = omega arith
 count-last method (x ∷ xs) y = omega (arith, count-last method xs y)

@@ -7,20 +7,20 @@ use native.Mathlib.Numerals.{add-one}
 use native.Mathlib.Omega.{arith}
 use borrow.Author.Tests.{lt-ltb, le-ltb}
 use lib.Dec.{eqb}
-use lib.ListN.{length, getD}
+use lib.ListN.{length, length-append, getD}
 use lib.Signed.{mag}
 use Rattle.laws.specs.Bits.{half32, span32}
 use Rattle.laws.proofs.Order.{by-test, by-order}
 use Rattle.index.specs.declared.answer.Answer.{Answer}
-use Rattle.index.specs.Answer.{indexOf}
-use Rattle.index_summary.specs.Summary.{joinedOf, SummaryOf}
+use Rattle.index.specs.Answer.{methodOf, indexOf}
+use Rattle.index_summary.specs.Summary.{one, joinedOf, countOf, SummaryOf}
 use Rattle.index_summary.proofs.Fits.{alone-within, joined-within}
 use Rattle.index_summary.proofs.Fits as fits
-use Rattle.index_summary.proofs.Right.{alone-right, joined-right}
+use Rattle.index_summary.proofs.Right.{count-last, alone-right, joined-right}
 use Rattle.answer_record.specs.Bytes.{signedOf}
 use Rattle.tray_places.specs.declared.samples.Sample.{Sample}
 use Rattle.tray_places.specs.Samples.{answerFrom}
-use Rattle.tray_places.specs.Places.{traySize, sampleAt, among, heldIn}
+use Rattle.tray_places.specs.Places.{places, traySize, isHeld, sampleAt, among, heldIn}
 use Rattle.tray_places.proofs.Held.{among-zero, next-free, next-held}
 use Rattle.tray.specs.declared.state.State.{State}
 use Rattle.tray.specs.declared.state.State.the-variants.{Refused, Empty, Holding}
@@ -121,11 +121,43 @@ after-right xs (y ∷ ys) st h =
     subst (λ (zs : List Sample). StateOf zs (stateAfter (withAnswer st (y .answer)) ys)) (append-assoc xs (y ∷ []) ys)
     (after-right (xs ++ (y ∷ [])) ys (withAnswer st (y .answer)) (with-right xs st y h))
 
+-- the counts of the places passed are of all that is held there
+each-counted : (method index lower upper : ℕ) → let m = methodOf (answerFrom method index lower upper) in one m 1 + one m 2 + one m 3 ≡ 1
+unfolding answerFrom
+each-counted method index lower upper =
+    by-test (eqb method 1) (λ e. rw e) (λ e. by-test (eqb method 2) (λ f. rw (e, f)) (λ f. rw (e, f)))
+
+abbrev Counted : List Sample → Type 0
+Counted xs = countOf 1 (answers xs) + countOf 2 (answers xs) + countOf 3 (answers xs) ≡ length xs
+
+none-counted : Counted []
+unfolding countOf
+none-counted = refl
+
+counted-last : (xs : List Sample) (s : Sample) → let m = methodOf (s .answer) in one m 1 + one m 2 + one m 3 ≡ 1 → Counted xs → Counted (xs ++ (s ∷ []))
+counted-last xs s h c =
+    let last : (method : ℕ) → countOf method (answers (xs ++ (s ∷ []))) ≡ countOf method (answers xs) + one (methodOf (s .answer)) method =
+    λ method. ap (countOf method) (sym (answers-last xs s)) ∙ count-last method (answers xs) (s .answer) in
+    omega (arith, last 1, last 2, last 3, length-append xs (s ∷ []))
+
+places-counted : (l : List ℕ) (n : ℕ) → Counted (among (isHeld l) (sampleAt l) n)
+places-counted l zero = subst Counted (sym (among-zero (isHeld l) (sampleAt l))) none-counted
+places-counted l (suc n) =
+    by-test (isHeld l n)
+    (λ e.
+    subst Counted (sym (next-held (isHeld l) (sampleAt l) n e))
+    (counted-last (among (isHeld l) (sampleAt l) n) (sampleAt l n) (each-counted _ _ _ _) (places-counted l n)))
+    (λ e. subst Counted (sym (next-free (isHeld l) (sampleAt l) n e ∙ append-nil (among (isHeld l) (sampleAt l) n))) (places-counted l n))
+
+held-counted : (l : List ℕ) → Counted (heldIn l)
+unfolding heldIn
+held-counted l = places-counted l places
+
 -- of a tray
 right-of : (l : List ℕ) (st : State) → length l ≡ traySize → StateOf (heldIn l) st → RightState l st
 right-of l (Refused k) h r = absurd r
 right-of l Empty h r = (h, r)
-right-of l (Holding t) h r = (h, r)
+right-of l (Holding t) h r = (h, r, omega (arith, r .a-is, r .settled-is, r .near-is, held-counted l))
 
 pub walk-right : (l : List ℕ) {st : State} → length l ≡ traySize → st ≡ stateAfter Empty (heldIn l) → RightState l st
 walk-right l {st} h e = right-of l st h (subst (StateOf (heldIn l)) (sym e) (after-right [] (heldIn l) Empty refl))

@@ -1,6 +1,6 @@
 -- Change request #102: "Asked, it gives the lowest and highest index, the sum of indices and the count for each of A, B settled and B near; an empty tray says
 -- so."
-use Prim.Native.Nat.{ℕ}
+use Prim.Native.Nat.{ℕ, _+_}
 use mathlib.Core.Path.{_≡_}
 use mathlib.Core.Bool.{cond}
 use mathlib.Core.List.{List, [], _∷_, map}
@@ -39,8 +39,9 @@ withPlace tray i state = cond (isHeld tray i) (withAnswer state (sampleAt tray i
 abbrev pub answersIn : List ℕ → List Answer
 answersIn tray = map (λ (s : Sample). s .answer) (heldIn tray)
 
--- by cases: refused with 5 where the memory is not as large as a tray; "an empty tray says so"; or the summary of the answers held
+-- by cases: refused with 5 where the memory is not as large as a tray; "an empty tray says so"; or the summary of the answers held, whose counts are of
+-- all of them
 abbrev pub RightState : List ℕ → State → Type 0
 RightState tray (Refused number) = (number ≡ 5) × (length tray ≡ 512 → ⊥)
 RightState tray Empty = (length tray ≡ 512) × (heldIn tray ≡ [])
-RightState tray (Holding t) = (length tray ≡ 512) × SummaryOf (answersIn tray) t
+RightState tray (Holding t) = (length tray ≡ 512) × SummaryOf (answersIn tray) t × (t .a + t .settled + t .near ≡ length (heldIn tray))

@@ -1,15 +1,12 @@
 -- What the C calls answer and leave, from what the operations below them ensure.
 use Prim.Native.Nat.{ℕ}
-use mathlib.Core.Path.{_≡_, refl, sym, ap, _∙_}
+use mathlib.Core.Path.{_≡_, refl, ap, _∙_}
 use mathlib.Core.List.{List}
 use lib.ListN.{length}
 use Rattle.index.specs.declared.answer.Answer.{Answer}
 use Rattle.index.specs.Answer.{numberOf, RightAnswer}
 use Rattle.index.specs.ChosenAnswer.{answerOf}
-use Rattle.answer_record.specs.Bytes.{stored}
 use Rattle.answer_record.specs.Record.{resultSize, recordOf}
-use Rattle.answer_record.proofs.Stores.{stored-whole}
-use Rattle.answer_record.proofs.Records.{length-record}
 use Rattle.sheet.specs.declared.SheetAnswer.{SheetAnswer}
 use Rattle.sheet.specs.Sheet.{sheetRefusal, sheetAnswerOf, sheetNumberOf}
 use Rattle.sheet.proofs.Worked.{number-of-answer}
@@ -23,10 +20,7 @@ pub no-record : NoRecord
 unfolding pairNumber recordAfter
 no-record = record { number = λ u y. refl; untouched = λ u y. refl }
 
--- a record of 16 bytes: all of it is the record that was stored from its start on
-pub whole : (lent after : List ℕ) (a : Answer) → length lent ≡ resultSize → after ≡ stored lent 0 (recordOf a) → after ≡ recordOf a
-whole lent after a h e = e ∙ stored-whole lent (recordOf a) (length-record a ∙ sym h)
-
+-- a record of 16 bytes
 pub filled : (u y number : ℕ) (lent after : List ℕ) {a : Answer} → length lent ≡ resultSize → a ≡ answerOf u y → RightAnswer u y a
     → after ≡ recordOf a → number ≡ numberOf a → PairCall u y lent number after
 filled u y number lent after {a} h alone right bytes same = record {

@@ -4,8 +4,9 @@ use borrow.Author.Tests.{eq-eqb, ne-eqb}
 use borrow.Author.Needs.{needs}
 use Rattle.index.specs.Answer.{numberOf}
 use Rattle.answer_record.specs.Record.{recordOf}
+use Rattle.answer_record.proofs.Records.{whole}
 use Rattle.viscosity_index.specs.PairCall.{pairNumber, recordAfter}
-use Rattle.viscosity_index.proofs.Calls.{untouched, whole, filled}
+use Rattle.viscosity_index.proofs.Calls.{untouched, filled}
 use Rattle.viscosity_index.proofs.vi_pair.Statement.{statement}
 use Rattle.viscosity_index.proofs.vi_pair.Tie as tie
 

@@ -1,0 +1,130 @@
+-- What the calls answer and leave, by the sizes of what is lent and by what the tray answers.
+use Prim.Native.Nat.{ℕ, _+_, _<_}
+use mathlib.Core.Path.{_≡_, refl, sym, ap, _∙_}
+use mathlib.Core.List.{List, [], _∷_}
+use native.Mathlib.Omega.{arith}
+use borrow.Author.Tests.{eq-eqb, ne-eqb}
+use lib.IntN.{ℤ}
+use lib.ListN.{length, set}
+use mir.Facts.{toZ-pos}
+use mir.Syntax.{w64}
+use mir.Val.{toZ, ofZ, SFits}
+use Rattle.laws.specs.Bits.{span32}
+use Rattle.index.specs.declared.answer.Answer.{Answer}
+use Rattle.index.specs.Answer.{numberOf}
+use Rattle.answer_record.specs.Record.{resultSize, recordOf}
+use Rattle.index_summary.specs.declared.Summary.{Summary}
+use Rattle.index_summary.proofs.Fits.{back}
+use Rattle.tray.specs.declared.Taken.{Taken}
+use Rattle.tray.specs.declared.state.State.{State}
+use Rattle.tray.specs.Tray.{putAnswer, trayAfterPut, takeAnswer, trayAfterTake}
+use Rattle.tray.specs.State.{stateOf}
+use Rattle.tray.specs.Calls.{takenNumber, stateNumber}
+use Rattle.tray_calls.specs.TrayCalls.{notItsSize, recordWith, putNumber, trayPut, recordPut, pairSize, pairWith, recordFrom, takeNumber, trayTaken, pairTaken, recordTaken, rowSize, rowOf, summaryRow, rowWith, summaryNumber, summaryAfter}
+
+-- ---- stores that fill a whole memory
+
+pub pair-stored : (l : List ℕ) (u y : ℕ) → length l ≡ pairSize → set (set l 0 u) 1 y ≡ u ∷ y ∷ []
+pair-stored [] u y e = absurd (omega arith)
+pair-stored (x ∷ []) u y e = absurd (omega arith)
+pair-stored (x ∷ z ∷ []) u y e = refl
+pair-stored (x ∷ z ∷ w ∷ l) u y e = absurd (omega arith)
+
+pub row-stored : (l : List ℤ) (a b c d e f g : ℤ) → length l ≡ rowSize
+    → set (set (set (set (set (set (set l 0 a) 1 b) 2 c) 3 d) 4 e) 5 f) 6 g ≡ rowOf a b c d e f g
+row-stored [] a b c d e f g h = absurd (omega arith)
+row-stored (p ∷ []) a b c d e f g h = absurd (omega arith)
+row-stored (p ∷ q ∷ []) a b c d e f g h = absurd (omega arith)
+row-stored (p ∷ q ∷ r ∷ []) a b c d e f g h = absurd (omega arith)
+row-stored (p ∷ q ∷ r ∷ s ∷ []) a b c d e f g h = absurd (omega arith)
+row-stored (p ∷ q ∷ r ∷ s ∷ t ∷ []) a b c d e f g h = absurd (omega arith)
+row-stored (p ∷ q ∷ r ∷ s ∷ t ∷ u ∷ []) a b c d e f g h = absurd (omega arith)
+row-stored (p ∷ q ∷ r ∷ s ∷ t ∷ u ∷ v ∷ []) a b c d e f g h = refl
+row-stored (p ∷ q ∷ r ∷ s ∷ t ∷ u ∷ v ∷ w ∷ l) a b c d e f g h = absurd (omega arith)
+
+-- a summary's numbers as the code hands them on
+pub summary-stored : (t : Summary) {after : List ℤ} → SFits w64 (t .lowest) → SFits w64 (t .highest) → SFits w64 (t .sum) → t .a < span32 → t .settled < span32
+    → t .near < span32
+    → after ≡ rowOf (toZ w64 (t .a + t .settled + t .near)) (toZ w64 (ofZ w64 (t .lowest))) (toZ w64 (ofZ w64 (t .highest))) (toZ w64 (ofZ w64 (t .sum)))
+    (toZ w64 (t .a)) (toZ w64 (t .settled)) (toZ w64 (t .near))
+    → after ≡ summaryRow t
+summary-stored t low high sum a settled near e =
+    e
+    ∙ rw (
+      toZ-pos w64 {n = t .a + t .settled + t .near} (omega arith),
+      back (t .lowest) low,
+      back (t .highest) high,
+      back (t .sum) sum,
+      toZ-pos w64 {n = t .a} (omega arith),
+      toZ-pos w64 {n = t .settled} (omega arith),
+      toZ-pos w64 {n = t .near} (omega arith),
+    )
+
+-- ---- putting in
+
+module _ (tray lent : List ℕ) (n u y : ℕ) where
+  abbrev pub PutLeaves : ℕ → List ℕ → List ℕ → Type 0
+  PutLeaves number after recorded =
+      (number ≡ putNumber tray lent n u y) × ((after ≡ trayPut tray lent n u y) × (recorded ≡ recordPut tray lent n u y))
+
+  pub put-other : (length lent ≡ resultSize → ⊥) → PutLeaves notItsSize tray lent
+  unfolding putNumber trayPut recordPut
+  put-other h = (simp (ne-eqb _ _ h), (simp (ne-eqb _ _ h), simp (ne-eqb _ _ h)))
+
+  pub put-done : (a : Answer) {number : ℕ} {after recorded : List ℕ} → length lent ≡ resultSize → a ≡ putAnswer tray n u y
+      → after ≡ trayAfterPut tray n u y → number ≡ numberOf a → recorded ≡ recordWith lent a → PutLeaves number after recorded
+  unfolding putNumber trayPut recordPut
+  put-done a h e f m g =
+      (simp (eq-eqb _ _ h) (m ∙ ap numberOf e), (simp (eq-eqb _ _ h) f, simp (eq-eqb _ _ h) (g ∙ ap (recordWith lent) e)))
+
+-- a refused answer leaves the record, any other fills it
+pub record-left : (lent : List ℕ) (a : Answer) {number : ℕ} → number ≡ numberOf a → (number ≡ 0 → ⊥) → lent ≡ recordWith lent a
+record-left lent a e h = simp (ne-eqb _ _ (λ (z : numberOf a ≡ 0). h (e ∙ z)))
+
+pub record-filled : (lent : List ℕ) (a : Answer) {number : ℕ} {after : List ℕ} → number ≡ numberOf a → number ≡ 0 → after ≡ recordOf a → after ≡ recordWith lent a
+record-filled lent a e z h = simp (eq-eqb (numberOf a) 0 (sym e ∙ z)) h
+
+-- ---- taking out
+
+module _ (tray pair lent : List ℕ) (n : ℕ) where
+  abbrev pub TakeLeaves : ℕ → List ℕ → List ℕ → List ℕ → Type 0
+  TakeLeaves number after paired recorded =
+      (number ≡ takeNumber tray pair lent n)
+      × ((after ≡ trayTaken tray pair lent n) × ((paired ≡ pairTaken tray pair lent n) × (recorded ≡ recordTaken tray pair lent n)))
+
+  pub take-other-pair : (length pair ≡ pairSize → ⊥) → TakeLeaves notItsSize tray pair lent
+  unfolding takeNumber trayTaken pairTaken recordTaken
+  take-other-pair h = (simp (ne-eqb _ _ h), (simp (ne-eqb _ _ h), (simp (ne-eqb _ _ h), simp (ne-eqb _ _ h))))
+
+  pub take-other-record : length pair ≡ pairSize → (length lent ≡ resultSize → ⊥) → TakeLeaves notItsSize tray pair lent
+  unfolding takeNumber trayTaken pairTaken recordTaken
+  take-other-record e h = (
+    simp (eq-eqb _ _ e, ne-eqb _ _ h),
+    (simp (eq-eqb _ _ e, ne-eqb _ _ h), (simp (eq-eqb _ _ e, ne-eqb _ _ h), simp (eq-eqb _ _ e, ne-eqb _ _ h))),
+  )
+
+  pub take-done : (t : Taken) {after paired recorded : List ℕ} → length pair ≡ pairSize → length lent ≡ resultSize → t ≡ takeAnswer tray n
+      → after ≡ trayAfterTake tray n → paired ≡ pairWith pair t → recorded ≡ recordFrom lent t → TakeLeaves (takenNumber t) after paired recorded
+  unfolding takeNumber trayTaken pairTaken recordTaken
+  take-done t e h is f p r = (
+    simp (eq-eqb _ _ e, eq-eqb _ _ h) (ap takenNumber is),
+    (
+      simp (eq-eqb _ _ e, eq-eqb _ _ h) f,
+      (simp (eq-eqb _ _ e, eq-eqb _ _ h) (p ∙ ap (pairWith pair) is), simp (eq-eqb _ _ e, eq-eqb _ _ h) (r ∙ ap (recordFrom lent) is)),
+    ),
+  )
+
+-- ---- the summary
+
+module _ (tray : List ℕ) (row : List ℤ) where
+  abbrev pub SummaryLeaves : ℕ → List ℤ → Type 0
+  SummaryLeaves number after = (number ≡ summaryNumber tray row) × (after ≡ summaryAfter tray row)
+
+  pub summary-other : (length row ≡ rowSize → ⊥) → SummaryLeaves notItsSize row
+  unfolding summaryNumber summaryAfter
+  summary-other h = (simp (ne-eqb _ _ h), simp (ne-eqb _ _ h))
+
+  pub summary-done : (st : State) {after : List ℤ} → length row ≡ rowSize → st ≡ stateOf tray → after ≡ rowWith row st
+      → SummaryLeaves (stateNumber st) after
+  unfolding summaryNumber summaryAfter
+  summary-done st e is f = (simp (eq-eqb _ _ e) (ap stateNumber is), simp (eq-eqb _ _ e) (f ∙ ap (rowWith row) is))

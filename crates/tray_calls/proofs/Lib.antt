@@ -1,0 +1,2 @@
+-- The laws of the calls.
+pub mod Calls

@@ -1,0 +1,2 @@
+-- The definitions that the contracts of tray_calls cite.
+pub mod TrayCalls

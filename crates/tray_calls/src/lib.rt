@@ -1,0 +1,156 @@
+// The calls with a tray as C has them: numbers and lent memories. Each lent memory is first asked for its size; a refused call leaves all of them as they are.
+// A crate of its own below the C calls, so that its must-fail edits do not prove the pair and the sheet again.
+ghost use mathlib.Core.Path.{_≡_};
+ghost use lib.ListN.{length};
+ghost use Rattle.tray_calls.specs.TrayCalls.{pairSize, pairOf, rowSize, rowOf, summaryRow, putNumber, trayPut, recordPut, takeNumber, trayTaken, pairTaken, recordTaken, summaryNumber, summaryAfter};
+use answer_record::layout::RESULT_SIZE;
+use answer_record::write_result;
+use index::answer::ANSWERED;
+use index::answer::number_of;
+use tray::State;
+use tray::Summary;
+use tray::Taken;
+
+// What is answered where a lent memory has not its size, and where no question refuses.
+const NOT_ITS_SIZE: u32 = 5;
+
+const DONE: u32 = 0;
+
+// A pair: how many numbers it is, and where u and y stand.
+const PAIR_SIZE: usize = 2;
+
+const U_AT: usize = 0;
+
+const Y_AT: usize = 1;
+
+// A summary: how many numbers it is, and where each stands.
+const SUMMARY_SIZE: usize = 7;
+
+const HELD_AT: usize = 0;
+
+const LOWEST_AT: usize = 1;
+
+const HIGHEST_AT: usize = 2;
+
+const SUM_AT: usize = 3;
+
+const A_AT: usize = 4;
+
+const SETTLED_AT: usize = 5;
+
+const NEAR_AT: usize = 6;
+
+// Puts a sample in, with the pair's answer as one record.
+pub fn put_sample(tray: &mut [u32], number: u8, u: u32, y: u32, record: &mut [u8]) -> u32
+    ensures number { λ r. ⌜ r ≡ putNumber (now (tray .entry)) (now («record» .entry)) number u y ⌝ }
+    ensures numbers { λ _. ⌜ now (tray .exit) ≡ trayPut (now (tray .entry)) (now («record» .entry)) number u y ⌝ }
+    ensures bytes { λ _. ⌜ now («record» .exit) ≡ recordPut (now (tray .entry)) (now («record» .entry)) number u y ⌝ }
+{
+    if record.len() != RESULT_SIZE {
+        return NOT_ITS_SIZE;
+    }
+    let answer = tray::put(tray, number, u, y);
+    let refused = number_of(answer);
+    if refused != ANSWERED {
+        return refused as u32;
+    }
+    write_result(record, 0, answer);
+    DONE
+}
+
+// Stores a pair, u then y.
+fn store_pair(pair: &mut [u32], u: u32, y: u32)
+    requires { ⌜ length (now pair) ≡ pairSize ⌝ }
+    ensures { λ _. ⌜ now (pair .exit) ≡ pairOf u y ⌝ }
+{
+    pair[U_AT] = u;
+    pair[Y_AT] = y;
+}
+
+// Takes a sample out: its pair, and its answer as one record.
+pub fn take_sample(tray: &mut [u32], number: u8, pair: &mut [u32], record: &mut [u8]) -> u32
+    ensures number { λ r. ⌜ r ≡ takeNumber (now (tray .entry)) (now (pair .entry)) (now («record» .entry)) number ⌝ }
+    ensures numbers { λ _. ⌜ now (tray .exit) ≡ trayTaken (now (tray .entry)) (now (pair .entry)) (now («record» .entry)) number ⌝ }
+    ensures pair { λ _. ⌜ now (pair .exit) ≡ pairTaken (now (tray .entry)) (now (pair .entry)) (now («record» .entry)) number ⌝ }
+    ensures bytes { λ _. ⌜ now («record» .exit) ≡ recordTaken (now (tray .entry)) (now (pair .entry)) (now («record» .entry)) number ⌝ }
+{
+    if pair.len() != PAIR_SIZE {
+        return NOT_ITS_SIZE;
+    }
+    if record.len() != RESULT_SIZE {
+        return NOT_ITS_SIZE;
+    }
+    let taken = tray::take(tray, number);
+    match taken {
+        Taken::Refused(refused) => refused as u32,
+        Taken::Out(sample) => {
+            let answer = sample.answer;
+            store_pair(pair, sample.u, sample.y);
+            write_result(record, 0, answer);
+            DONE
+        }
+    }
+}
+
+// Stores the numbers of a summary.
+fn store_row(
+    row: &mut [i64],
+    held: i64,
+    lowest: i64,
+    highest: i64,
+    sum: i64,
+    a: i64,
+    settled: i64,
+    near: i64,
+)
+    requires { ⌜ length (now row) ≡ rowSize ⌝ }
+    ensures { λ _. ⌜ now (row .exit) ≡ rowOf held lowest highest sum a settled near ⌝ }
+{
+    row[HELD_AT] = held;
+    row[LOWEST_AT] = lowest;
+    row[HIGHEST_AT] = highest;
+    row[SUM_AT] = sum;
+    row[A_AT] = a;
+    row[SETTLED_AT] = settled;
+    row[NEAR_AT] = near;
+}
+
+// Stores a summary, with how many samples it is of.
+fn store_summary(row: &mut [i64], t: Summary)
+    requires { ⌜ length (now row) ≡ rowSize ⌝ }
+    ensures { λ _. ⌜ now (row .exit) ≡ summaryRow t ⌝ }
+{
+    let held = (t.a as u64 + t.settled as u64 + t.near as u64) as i64;
+    store_row(
+        row,
+        held,
+        t.lowest,
+        t.highest,
+        t.sum,
+        t.a as i64,
+        t.settled as i64,
+        t.near as i64,
+    );
+}
+
+// The summary of a tray as a row; all zeros where no sample is held.
+pub fn fill_summary(tray: &[u32], row: &mut [i64]) -> u32
+    ensures number { λ r. ⌜ r ≡ summaryNumber (now (tray .entry)) (now (row .entry)) ⌝ }
+    ensures numbers { λ _. ⌜ now (row .exit) ≡ summaryAfter (now (tray .entry)) (now (row .entry)) ⌝ }
+{
+    if row.len() != SUMMARY_SIZE {
+        return NOT_ITS_SIZE;
+    }
+    let state = tray::summary(tray);
+    match state {
+        State::Refused(refused) => refused as u32,
+        State::Empty => {
+            store_row(row, 0, 0, 0, 0, 0, 0, 0);
+            DONE
+        }
+        State::Holding(t) => {
+            store_summary(row, t);
+            DONE
+        }
+    }
+}
