@@ -1,10 +1,11 @@
-// What C calls: the pair and the sheet operation on numbers and bytes, and the viscosity-gravity constant on numbers. The header is
-// include/viscosity_index.h.
+// What C calls: the pair and the sheet operation on numbers and bytes, the viscosity-gravity constant on numbers, and the tray on lent memories. The header
+// is include/viscosity_index.h.
 ghost use mathlib.Core.Path.{_≡_};
 ghost use Rattle.gravity_constant.specs.declared.questions.Temperature.the-variants.{At40, At100};
 ghost use Rattle.constant_row.specs.ConstantCall.{rowNumber, rowAfter, ConstantCall};
 ghost use Rattle.sheet.specs.Sheet.{sheetRefusal, sheetAfter, sheetNumberOf};
 ghost use Rattle.sheet.specs.Demand3.{Demand3};
+ghost use Rattle.tray_calls.specs.TrayCalls.{putNumber, trayPut, recordPut, takeNumber, trayTaken, pairTaken, recordTaken, summaryNumber, summaryAfter};
 ghost use Rattle.viscosity_index.specs.PairCall.{pairNumber, recordAfter, PairCall};
 use answer_record::layout::RESULT_SIZE;
 use gravity_constant::Temperature;
@@ -69,4 +70,45 @@ pub extern "C" fn vi_constant_100(viscosity: u32, density: u32, row: &mut [i32])
     ensures right { λ r. ⌜ ConstantCall At100 viscosity density (now (row .entry)) r (now (row .exit)) ⌝ }
 {
     constant_row::fill_row(Temperature::At100, viscosity, density, row)
+}
+
+// Puts a sample into a lent tray: the pair's answer as one record. A refused call leaves the tray and the record as they are.
+#[no_mangle]
+pub extern "C" fn vi_tray_put(
+    tray: &mut [u32],
+    number: u8,
+    u: u32,
+    y: u32,
+    record: &mut [u8],
+) -> u32
+    ensures number { λ r. ⌜ r ≡ putNumber (now (tray .entry)) (now («record» .entry)) number u y ⌝ }
+    ensures numbers { λ _. ⌜ now (tray .exit) ≡ trayPut (now (tray .entry)) (now («record» .entry)) number u y ⌝ }
+    ensures bytes { λ _. ⌜ now («record» .exit) ≡ recordPut (now (tray .entry)) (now («record» .entry)) number u y ⌝ }
+{
+    tray_calls::put_sample(tray, number, u, y, record)
+}
+
+// Takes a sample out of a lent tray: its pair, and its answer as one record. A refused call leaves all three as they are.
+#[no_mangle]
+pub extern "C" fn vi_tray_take(
+    tray: &mut [u32],
+    number: u8,
+    pair: &mut [u32],
+    record: &mut [u8],
+) -> u32
+    ensures number { λ r. ⌜ r ≡ takeNumber (now (tray .entry)) (now (pair .entry)) (now («record» .entry)) number ⌝ }
+    ensures numbers { λ _. ⌜ now (tray .exit) ≡ trayTaken (now (tray .entry)) (now (pair .entry)) (now («record» .entry)) number ⌝ }
+    ensures pair { λ _. ⌜ now (pair .exit) ≡ pairTaken (now (tray .entry)) (now (pair .entry)) (now («record» .entry)) number ⌝ }
+    ensures bytes { λ _. ⌜ now («record» .exit) ≡ recordTaken (now (tray .entry)) (now (pair .entry)) (now («record» .entry)) number ⌝ }
+{
+    tray_calls::take_sample(tray, number, pair, record)
+}
+
+// The summary of a lent tray, as a row of seven numbers: all zeros where no sample is held. A row of another length is left as it is, and 5 is answered.
+#[no_mangle]
+pub extern "C" fn vi_tray_summary(tray: &[u32], row: &mut [i64]) -> u32
+    ensures number { λ r. ⌜ r ≡ summaryNumber (now (tray .entry)) (now (row .entry)) ⌝ }
+    ensures numbers { λ _. ⌜ now (row .exit) ≡ summaryAfter (now (tray .entry)) (now (row .entry)) ⌝ }
+{
+    tray_calls::fill_summary(tray, row)
 }
