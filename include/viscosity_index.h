@@ -1,16 +1,20 @@
 /*
  * The viscosity index of ASTM D2270 from an oil's kinematic viscosities at 40 °C (u) and at 100 °C (y), each a whole number of
- * thousandths of a mm²/s: for one pair, and for a sheet of up to 2,000 pairs. And the viscosity-gravity constant of an oil from its density
- * and one of its viscosities.
+ * thousandths of a mm²/s: for one pair, and for a sheet of up to 2,000 pairs. The viscosity-gravity constant of an oil from its density
+ * and one of its viscosities. And a tray of up to 64 samples, each with a number, its pair and its answer, and the summary of a tray.
  *
  * What a caller may rely on, for any numbers and any bytes:
- * - Every function returns, and answers one of the numbers below. There is nothing to test beforehand, to initialise or to free.
- * - They read and write only the memory lent to them, remember nothing between calls, and may run at the same time on different memory.
- *   A buffer of bytes may have any alignment; a row of numbers is aligned as any array of int32_t. Where the length is 0, nothing is read
+ * - Every function returns, and answers one of the numbers below. There is nothing to test beforehand or to free, and nothing to initialise but a
+ *   new tray, to zeros.
+ * - They read and write only the memory lent to them, remember nothing between calls, and may run at the same time on different memory. What a
+ *   tray holds stands in the memory lent for it and nowhere else.
+ * - A buffer of bytes may have any alignment; a row of a constant is aligned as any array of int32_t, a tray and the pair of a sample as any array
+ *   of uint32_t, a summary as any array of int64_t. The memories lent to one call must not overlap. Where a length or count is 0, nothing is read
  *   through the pointer.
- * - The same question always gets the same answer; a pair in a record as in a sheet.
- * - A refused sheet, a record that is not 16 bytes, a row that is not 3 numbers, and the row of a refused constant are left as they were. The
- *   record of a refused pair is filled as any other, with the pair's number and zeros; a refused pair does not stop its sheet.
+ * - The same question always gets the same answer; a pair in a record as in a sheet and in a tray.
+ * - A refused sheet, a record that is not 16 bytes, a row that is not 3 numbers, the row of a refused constant, and all memory lent to a refused
+ *   call with a tray are left as they were. vi_pair and vi_sheet fill the record of a refused pair as any other, with the pair's number and zeros;
+ *   a refused pair does not stop its sheet.
  *
  * Numbers in bytes are least significant first.
  */
@@ -63,6 +67,12 @@
 #define VI_CONSTANT_LOWER 1u /* with the logarithm taken as lower / VI_Q, which is at or below it, and as upper / VI_Q, which is at or above */
 #define VI_CONSTANT_UPPER 2u /* it. lower and upper are at most 64 apart. VI_Q has no sign: divide by (double)VI_Q. */
 
+/* The number of a call with a tray, likewise; VI_ANSWERED where every question is answered yes. */
+#define VI_TRAY_NOT_LENT 5u    /* asked first: Has each of the lent memories just its size? */
+#define VI_NUMBER_HELD 31u     /* asked by vi_tray_put, after the pair's own questions, 1 to 4: Is the number not held yet? */
+#define VI_TRAY_FULL 32u       /* asked by vi_tray_put after that: Is a place free? No only with 64 samples held. */
+#define VI_NUMBER_NOT_HELD 33u /* asked by vi_tray_take: Is the number held? */
+
 /* A sheet's header: four 32-bit numbers, at these offsets. The blocks stand in either order, with other bytes between. */
 #define VI_HEADER_SIZE 16u    /* bytes */
 #define VI_HEADER_COUNT 0u    /* n, the count of pairs */
@@ -95,6 +105,36 @@
 #define VI_Q 16777216u
 #define VI_INDEX_B_GREATEST 10000
 
+/* A tray: 64 places of 8 numbers each, one behind the other. Place i begins at number VI_PLACE_SIZE * i. All zeros is the empty tray. Any numbers are
+   some tray, so that one which was stored can be loaded again, or lent from other memory at each call. */
+#define VI_TRAY_SIZE 512u  /* numbers of 32 bits, not bytes: 2,048 bytes */
+#define VI_TRAY_PLACES 64u /* a sample each */
+
+/* A place, by its numbers. It is free where its method is 0, whatever else stands in it. */
+#define VI_PLACE_SIZE 8u   /* numbers, not bytes; the last is 0 in a sample that was put in */
+#define VI_PLACE_METHOD 0u /* 0 free, 1 by A, 2 by B settled, 3 and any other by B near */
+#define VI_PLACE_NUMBER 1u /* the number of the sample */
+#define VI_PLACE_U 2u      /* its u */
+#define VI_PLACE_Y 3u      /* its y */
+#define VI_PLACE_INDEX 4u  /* the index: by A two's complement, by B without sign */
+#define VI_PLACE_LOWER 5u  /* p, by procedure B; 0 in a sample by A that was put in */
+#define VI_PLACE_UPPER 6u  /* P, likewise */
+
+/* The pair of a sample that is taken out: two numbers, at these places. */
+#define VI_SAMPLE_PAIR_SIZE 2u /* numbers, not bytes */
+#define VI_SAMPLE_PAIR_U 0u    /* u */
+#define VI_SAMPLE_PAIR_Y 1u    /* y */
+
+/* The summary of a tray: seven numbers of 64 bits with sign, at these places. With no sample held all seven are 0. */
+#define VI_SUMMARY_SIZE 7u    /* numbers, not bytes */
+#define VI_SUMMARY_HELD 0u    /* how many samples are held; 0 says that the tray is empty */
+#define VI_SUMMARY_LOWEST 1u  /* the lowest index */
+#define VI_SUMMARY_HIGHEST 2u /* the highest index */
+#define VI_SUMMARY_SUM 3u     /* the sum of indices, which may need more than 32 bits */
+#define VI_SUMMARY_A 4u       /* how many are by A */
+#define VI_SUMMARY_SETTLED 5u /* by B, settled */
+#define VI_SUMMARY_NEAR 6u    /* by B, near */
+
 #ifdef __cplusplus
 extern "C" {
 #endif
@@ -122,6 +162,28 @@ uint32_t vi_sheet(uint8_t *sheet, size_t length);
  */
 uint32_t vi_constant_40(uint32_t viscosity, uint32_t density, int32_t *row, size_t count);
 uint32_t vi_constant_100(uint32_t viscosity, uint32_t density, int32_t *row, size_t count);
+
+/*
+ * Puts a sample into a tray. `tray` points to `tray_count` numbers, `record` to `length` bytes. Unless these are VI_TRAY_SIZE and VI_RECORD_SIZE,
+ * answers VI_TRAY_NOT_LENT. Then the pair's questions are asked, 1 to 4, then 31 and 32. A refused call changes nothing, in the tray or in the
+ * record. Otherwise the first free place of the tray holds the sample, the record is the pair's answer, as vi_pair fills it, and VI_ANSWERED is
+ * answered.
+ */
+uint32_t vi_tray_put(uint32_t *tray, size_t tray_count, uint8_t number, uint32_t u, uint32_t y, uint8_t *record, size_t length);
+
+/*
+ * Takes a sample out of a tray. `pair` points to `pair_count` numbers (not bytes). Unless the sizes are VI_TRAY_SIZE, VI_SAMPLE_PAIR_SIZE and
+ * VI_RECORD_SIZE, answers VI_TRAY_NOT_LENT; where the number is not held, 33. A refused call changes nothing. Otherwise the pair is u and y, the
+ * record is the answer held with them, the place is free (its first number is 0, its other numbers are as they were), and VI_ANSWERED is
+ * answered. Where several places hold one number, which no list of calls from an empty tray leads to, it is the first of them.
+ */
+uint32_t vi_tray_take(uint32_t *tray, size_t tray_count, uint8_t number, uint32_t *pair, size_t pair_count, uint8_t *record, size_t length);
+
+/*
+ * The summary of a tray, which is only read. `row` points to `row_count` numbers (not bytes). Unless the sizes are VI_TRAY_SIZE and
+ * VI_SUMMARY_SIZE, answers VI_TRAY_NOT_LENT and leaves the row as it is. Otherwise fills the row and answers VI_ANSWERED.
+ */
+uint32_t vi_tray_summary(const uint32_t *tray, size_t tray_count, int64_t *row, size_t row_count);
 
 #ifdef __cplusplus
 }
