@@ -8,7 +8,7 @@ set -euo pipefail
 . "$(dirname "$0")/compare/common.sh"
 have_headers
 find_archive
-short=(--pairs 200000 --sheets 4000 --constants 400000 --powers 0)
+short=(--pairs 200000 --sheets 4000 --constants 400000 --powers 0 --trays 40000)
 
 # In the order of the numbers that wrong.c gives them.
 wrong=(

@@ -1,7 +1,8 @@
 /* Compares the library, through its C calls, with the implementation of document
-   01 in oil.c, the model of a sheet in sheets.c and the constant in constant.c.
+   01 in oil.c, the model of a sheet in sheets.c, the constant in constant.c and the
+   tray in tray.c.
 
-     compare [--pairs N] [--sheets M] [--constants C] [--powers P] [--seed S]
+     compare [--pairs N] [--sheets M] [--constants C] [--powers P] [--trays T] [--seed S]
 
    Ends at the first difference with exit code 1 and a line that names it. */
 #include "compare.h"
@@ -24,12 +25,12 @@ static uint64_t option(int argc, char **argv, const char *name, uint64_t otherwi
 
 static bool options_known(int argc, char **argv)
 {
-    static const char *const names[] = { "--pairs", "--sheets", "--constants", "--powers", "--seed" };
+    static const char *const names[] = { "--pairs", "--sheets", "--constants", "--powers", "--trays", "--seed" };
     if (argc % 2 == 0)
         return false;
     for (int i = 1; i < argc; i += 2) {
         bool known = false;
-        for (int j = 0; j < 5; j++)
+        for (int j = 0; j < 6; j++)
             known = known || strcmp(argv[i], names[j]) == 0;
         if (!known)
             return false;
@@ -62,10 +63,30 @@ static void print_constants(void)
     printf("; widest upper - lower %" PRId64 "\n", tally.widest_row);
 }
 
+static void print_trays(void)
+{
+    printf("calls with trays %" PRIu64 " in %" PRIu64 " lists: put in by A %" PRIu64 ", by B settled %" PRIu64
+        ", by B near %" PRIu64 ", taken out %" PRIu64 ", summaries %" PRIu64 ", refused by question", tally.tray_calls,
+        tally.tray_lists, tally.put_in[BY_A], tally.put_in[B_SETTLED], tally.put_in[B_NEAR], tally.taken_out,
+        tally.summaries);
+    static const int questions[] = { 1, 2, 3, 4, 5, 31, 32, 33 };
+    for (int i = 0; i < 8; i++)
+        printf(" %d: %" PRIu64 "%s", questions[i], tally.tray_refused[questions[i]], i < 7 ? "," : "\n");
+    printf("a pair's question with its number held %" PRIu64 ", with 64 held %" PRIu64 "; 31 with 64 held %" PRIu64
+        "; stored and loaded %" PRIu64 "\n", tally.pair_before_held,
+        tally.pair_before_full, tally.held_before_full, tally.stored);
+    uint64_t fewest = UINT64_MAX;
+    for (int i = 0; i <= 64; i++)
+        fewest = tally.summaries_at[i] < fewest ? tally.summaries_at[i] : fewest;
+    printf("summaries of an empty tray %" PRIu64 ", of a full one %" PRIu64 ", at each fill at least %" PRIu64
+        "; sum of indices from %" PRId64 " to %" PRId64 "\n", tally.summaries_at[0], tally.summaries_at[64], fewest,
+        tally.sum_least, tally.sum_greatest);
+}
+
 int main(int argc, char **argv)
 {
     if (!options_known(argc, argv)) {
-        fprintf(stderr, "usage: compare [--pairs N] [--sheets M] [--constants C] [--powers P] [--seed S]\n");
+        fprintf(stderr, "usage: compare [--pairs N] [--sheets M] [--constants C] [--powers P] [--trays T] [--seed S]\n");
         return 2;
     }
     setvbuf(stdout, NULL, _IOLBF, 0);
@@ -78,10 +99,12 @@ int main(int argc, char **argv)
     compare_pairs(pairs);
     compare_sheets(sheets);
     compare_constants(constants, option(argc, argv, "--powers", 4));
+    compare_trays(option(argc, argv, "--trays", 2000000));
     print_tally();
     print_constants();
-    printf("compare: passed: %" PRIu64 " pairs, %" PRIu64 " sheets and %" PRIu64 " constants agree",
-        tally.pairs, tally.sheets, tally.constants);
+    print_trays();
+    printf("compare: passed: %" PRIu64 " pairs, %" PRIu64 " sheets, %" PRIu64 " constants and %" PRIu64
+        " calls with trays agree", tally.pairs, tally.sheets, tally.constants, tally.tray_calls);
     printf(", seed %" PRIu64 ", %ld s\n", seed, (long)(time(NULL) - start));
     return 0;
 }

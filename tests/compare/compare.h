@@ -7,7 +7,7 @@
 #include "oil.h"
 
 /* "first asks whether the record is just 16 bytes (no: 5)"; likewise a row of
-   another count than 3 */
+   another count than 3, and any memory lent to a call with a tray */
 enum { WRONG_LENGTH = 5 };
 
 /* To be called once, before anything else: one seed for all random numbers, so
@@ -23,6 +23,7 @@ int64_t random_log(int64_t low, int64_t high);
 void now_pair(uint32_t u, uint32_t y);
 void now_sheet(uint64_t which, const uint8_t *bytes, size_t length);
 void now_constant(int degrees, uint32_t viscosity, uint32_t density, const int32_t *row);
+void now_tray(const char *call, uint8_t number, int held, uint64_t list);
 _Noreturn void fail(const char *what, const uint8_t *record);
 void progress(const char *name, uint64_t done, uint64_t of);
 
@@ -35,6 +36,12 @@ struct tally {
     uint32_t widest;            /* the greatest P - p */
     uint64_t constants, at_40, constant_refused[24], k_below_zero, log_below_zero;
     int64_t k_least, k_greatest, widest_row;    /* the last: upper - lower */
+    uint64_t tray_calls, tray_lists, damaged_calls, stored, tray_refused[34], taken_out;
+    uint64_t put_in[4];                         /* by method */
+    uint64_t summaries, summaries_at[65];       /* the latter: by samples held */
+    /* a pair refused with its number held, with 64 held; 31 with 64 held */
+    uint64_t pair_before_held, pair_before_full, held_before_full;
+    int64_t sum_least, sum_greatest;
 };
 extern struct tally tally;
 
@@ -42,6 +49,10 @@ extern struct tally tally;
 struct record check_pair(uint32_t u, uint32_t y);
 /* A pair of one of many kinds, refused ones among them. */
 void pick_pair(uint32_t *u, uint32_t *y);
+/* An oil such as benches see: y to 100 mm2/s, index from 0 to 250. */
+void pick_oil(uint32_t *u, uint32_t *y);
+/* The u at or below the place where procedure B passes k + 1/2. */
+int64_t half_by_b(const struct oil *o, int64_t k);
 
 void compare_pairs(uint64_t wanted);
 /* The pairs on, beside and above one row; those of the quadratics, every
@@ -54,5 +65,7 @@ void compare_constants(uint64_t wanted, uint64_t by_powers);
 /* Those beside the places where k changes, every step-th of each density; a part
    of compare_constants. */
 void compare_formula(const struct formula *f, int64_t step);
+/* So many calls with trays, in lists. */
+void compare_trays(uint64_t wanted);
 
 #endif

@@ -54,6 +54,10 @@ static size_t now_length;
 static int now_degrees;
 static uint32_t now_viscosity, now_density;
 static const int32_t *now_row;
+static const char *now_call;
+static uint8_t now_number;
+static int now_held;
+static uint64_t now_list;
 
 void now_pair(uint32_t u, uint32_t y)
 {
@@ -74,6 +78,16 @@ void now_constant(int degrees, uint32_t viscosity, uint32_t density, const int32
     now_viscosity = viscosity;
     now_density = density;
     now_row = row;
+}
+
+void now_tray(const char *call, uint8_t number, int held, uint64_t list)
+{
+    now_call = call;
+    now_number = number;
+    now_held = held;
+    now_list = list;
+    now_bytes = NULL;
+    now_degrees = 0;
 }
 
 static void print_bytes(const char *name, const uint8_t *bytes, size_t length)
@@ -102,6 +116,8 @@ _Noreturn void fail(const char *what, const uint8_t *record)
     printf("  pair: u %" PRIu32 " y %" PRIu32 ", seed %" PRIu64 "\n", now_u, now_y, seed);
     if (record != NULL)
         print_bytes("record", record, RECORD);
+    if (now_call != NULL)
+        printf("  tray: %s, number %u, %d held, list %" PRIu64 "\n", now_call, now_number, now_held, now_list);
     if (now_bytes != NULL) {
         printf("  sheet %" PRIu64 " of %zu bytes\n", now_which, now_length);
         print_bytes("sheet's first bytes", now_bytes, now_length < 64 ? now_length : 64);

@@ -1,5 +1,6 @@
-/* The C calls, declared here again from document 01 and change request #101 so
-   that nothing of the library's own header is relied on. */
+/* The C calls, declared here again from document 01 and change requests #101 and
+   #102 so that nothing of the library's own header is included. How a tray is laid
+   out the header alone says; tray.h has it again. */
 #ifndef LIBRARY_H
 #define LIBRARY_H
 
@@ -18,5 +19,15 @@ uint32_t vi_sheet(uint8_t *sheet, size_t length);
    unless count is 3, both with the row untouched. */
 uint32_t vi_constant_40(uint32_t viscosity, uint32_t density, int32_t *row, size_t count);
 uint32_t vi_constant_100(uint32_t viscosity, uint32_t density, int32_t *row, size_t count);
+
+/* A tray is 512 numbers. Put answers 0 with the record as vi_pair fills it; 1 to 4,
+   31 or 32 if refused. Take answers 0 with u and y and the record; 33 if refused.
+   The summary answers 0 with a row of seven. All answer 5 unless each count is the
+   right one; a refused call leaves everything. */
+uint32_t vi_tray_put(uint32_t *tray, size_t tray_count, uint8_t number, uint32_t u, uint32_t y,
+    uint8_t *record, size_t length);
+uint32_t vi_tray_take(uint32_t *tray, size_t tray_count, uint8_t number, uint32_t *pair, size_t pair_count,
+    uint8_t *record, size_t length);
+uint32_t vi_tray_summary(const uint32_t *tray, size_t tray_count, int64_t *row, size_t row_count);
 
 #endif

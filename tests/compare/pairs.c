@@ -5,7 +5,7 @@
 #include <string.h>
 
 struct tally tally = { .index_least = INT64_MAX, .index_greatest = INT64_MIN,
-    .k_least = INT64_MAX, .k_greatest = INT64_MIN };
+    .k_least = INT64_MAX, .k_greatest = INT64_MIN, .sum_least = INT64_MAX, .sum_greatest = INT64_MIN };
 
 /* ---- one pair ---- */
 
@@ -113,13 +113,18 @@ static void ask_half_by_a(const struct oil *o, int64_t k)
     ask(u + 1, o->y);
 }
 
+int64_t half_by_b(const struct oil *o, int64_t k)
+{
+    long double n = log10l((10000000.0L + 71500.0L * ((long double)k + 0.5L - 100.0L)) / 10000000.0L);
+    return (int64_t)((long double)o->H / (long double)UNITS * powl(o->y / 1000.0L, -n));
+}
+
 /* Both sides of the place where procedure B passes k + 1/2. */
 static void ask_half_by_b(const struct oil *o, int64_t k)
 {
-    long double n = log10l((10000000.0L + 71500.0L * ((long double)k + 0.5L - 100.0L)) / 10000000.0L);
-    long double u = (long double)o->H / (long double)UNITS * powl(o->y / 1000.0L, -n);
-    ask((int64_t)u, o->y);
-    ask((int64_t)u + 1, o->y);
+    int64_t u = half_by_b(o, k);
+    ask(u, o->y);
+    ask(u + 1, o->y);
 }
 
 static int64_t greatest_index(uint32_t y)
@@ -259,8 +264,7 @@ static void wrong_lengths(void)
     }
 }
 
-/* An oil such as benches see: y to 100 mm2/s, index from 0 to 250. */
-static void pick_oil(uint32_t *u, uint32_t *y)
+void pick_oil(uint32_t *u, uint32_t *y)
 {
     *y = (uint32_t)random_log(Y_LEAST, 100000);
     struct oil o = oil_of(*y + 1, *y);
