@@ -73,8 +73,8 @@ static void print_trays(void)
     for (int i = 0; i < 8; i++)
         printf(" %d: %" PRIu64 "%s", questions[i], tally.tray_refused[questions[i]], i < 7 ? "," : "\n");
     printf("a pair's question with its number held %" PRIu64 ", with 64 held %" PRIu64 "; 31 with 64 held %" PRIu64
-        "; stored and loaded %" PRIu64 "\n", tally.pair_before_held,
-        tally.pair_before_full, tally.held_before_full, tally.stored);
+        "; damaged trays %" PRIu64 " calls; stored and loaded %" PRIu64 "\n", tally.pair_before_held,
+        tally.pair_before_full, tally.held_before_full, tally.damaged_calls, tally.stored);
     uint64_t fewest = UINT64_MAX;
     for (int i = 0; i <= 64; i++)
         fewest = tally.summaries_at[i] < fewest ? tally.summaries_at[i] : fewest;

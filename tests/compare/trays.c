@@ -1,5 +1,5 @@
-/* The trays: lists of calls of every kind from an empty tray. tray_call.c compares
-   each call. */
+/* The trays: lists of calls of every kind from an empty tray, and calls with
+   damaged ones. tray_call.c compares each call. */
 #include "compare.h"
 #include "tray_call.h"
 
@@ -244,6 +244,83 @@ static void random_list(void)
     }
 }
 
+/* ---- damaged trays ---- */
+
+static uint32_t edge(void)
+{
+    static const uint32_t edges[] = { 0, 0, 1, 2, 3, 4, 255, 256, 257, 511, 0x7fffffff, 0x80000000u, 0xffffff00u,
+        0xffffffffu };
+    int64_t which = random_in(0, 15);
+    return which < 14 ? edges[which] : (uint32_t)random64();
+}
+
+/* A tray that calls have led to. */
+static void fill_well(struct list *l)
+{
+    l->spread = NUMBERS;
+    go_to(l, (int)random_in(0, HELD_GREATEST));
+}
+
+/* Kinds 0 to 2 are such a tray with one number changed, or several. */
+static void damage(struct list *l)
+{
+    int64_t kind = random_in(0, 6), times = kind == 0 ? 1 : random_in(2, 40);
+    uint32_t same = random64() & 1 ? 0xffffffffu : edge();
+    if (kind <= 2)
+        fill_well(l);
+    for (int i = 0; i < TRAY; i++)
+        switch (kind) {
+        case 3:
+            l->t.numbers[i] = (uint32_t)random64();
+            break;
+        case 4:                 /* half of them 0xffffffff; some all zeros */
+            l->t.numbers[i] = same;
+            break;
+        case 5:                 /* every part at its edges; numbers twice */
+            l->t.numbers[i] = i % PLACE == AT_NUMBER ? (uint32_t)random_in(0, 300) : edge();
+            break;
+        case 6:                 /* all free, whatever else they hold */
+            l->t.numbers[i] = i % PLACE == AT_METHOD ? 0 : edge();
+            break;
+        default:
+            break;
+        }
+    if (kind <= 2)
+        for (int64_t i = 0; i < times; i++)
+            l->t.numbers[random_in(0, TRAY - 1)] = edge();
+}
+
+/* Half of the numbers asked for are those of places. */
+static uint8_t number_of_damaged(const struct list *l)
+{
+    if (random64() & 1)
+        return (uint8_t)l->t.numbers[PLACE * random_in(0, PLACES - 1) + AT_NUMBER];
+    return any_number(l);
+}
+
+static void damaged_list(void)
+{
+    static struct list l;
+    begin_list(&l);
+    damage(&l);
+    l.t.damaged = true;
+    l.spread = NUMBERS;
+    l.t.in_place = random64() & 1;
+    move_tray();
+    summary(&l.t);
+    for (int64_t calls = random_in(5, 100); calls > 0; calls--) {
+        int64_t kind = random_in(0, 9);
+        if (kind < 4)
+            put_any(&l, number_of_damaged(&l));
+        else if (kind < 8)
+            take(&l.t, number_of_damaged(&l));
+        else if (kind < 9)
+            summary(&l.t);
+        else
+            call_with_other_sizes(&l);
+    }
+}
+
 /* ---- named lists ---- */
 
 /* Five pairs that document 01 prints, and the summary by hand. */
@@ -397,7 +474,10 @@ void compare_trays(uint64_t wanted)
     every_size(7);
     every_size(HELD_GREATEST);
     while (tally.tray_calls < wanted) {
-        random_list();
+        if (random_in(0, 2) == 0)
+            damaged_list();
+        else
+            random_list();
         progress("calls with trays", tally.tray_calls, wanted);
     }
 }
