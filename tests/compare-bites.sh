@@ -1,14 +1,15 @@
 #!/usr/bin/env bash
 # Shows that the comparison can fail: each of these wrong libraries, made from
-# the real one by tests/compare/wrong.c and wrong_constants.c, must be noticed. The
-# real one must pass the same short run, and so must three that choose otherwise
-# where the constant's request leaves the choice free. Then every last digit of the
-# table and of the two formulas, one more and one less.
+# the real one by tests/compare/wrong.c, wrong_constants.c and wrong_trays.c, must be
+# noticed. The real one must pass the same short run, and so must four that choose
+# otherwise where document 01 or the constant's request leaves the choice free. Then
+# every last digit of the table and of the two formulas, one more and one less.
 set -euo pipefail
 . "$(dirname "$0")/compare/common.sh"
 have_headers
 find_archive
 short=(--pairs 200000 --sheets 4000 --constants 400000 --powers 0 --trays 40000)
+short_trays=(--pairs 0 --sheets 0 --constants 0 --powers 0 --trays 40000)
 
 # In the order of the numbers that wrong.c gives them.
 wrong=(
@@ -90,14 +91,80 @@ right_constants=(
     "fractions 64 apart, the upper one far above"
 )
 
+# Likewise, wrong_trays.c.
+wrong_trays=(
+    "put replaces a held number"
+    "put holds a number twice"
+    "32 with 63 held"
+    "the sixty-fifth sample overwrites the last"
+    "31 asked before the pair's questions"
+    "32 asked before the pair's questions"
+    "32 asked before 31"
+    "the sizes asked after the pair's questions"
+    "a refused pair stored"
+    "a put refused by 31 changes the sample"
+    "a refused pair's record filled"
+    "the record filled where 31 or 32 refuses"
+    "the record of a put left as found"
+    "a sample answered but not stored"
+    "y stored where u is"
+    "the fractions of a sample not stored"
+    "fractions other than the pair call's"
+    "the number taken in 7 bits"
+    "the count remembered in the library"
+    "take gives the first sample"
+    "take leaves the sample"
+    "take frees the next place too"
+    "number 0 never held"
+    "y before u in the pair taken out"
+    "a refused take changes the pair"
+    "a refused take changes the record"
+    "the sample's number in the record taken out"
+    "the record of the take before"
+    "the sum in 32 bits"
+    "near counted as settled"
+    "settled counted as A"
+    "the lowest of an empty tray not 0"
+    "an empty tray holds 1"
+    "the lowest never above 0"
+    "the highest never below 0"
+    "the lowest leaves, another has the same index"
+    "the highest leaves, another has the same index"
+    "equal indices added once"
+    "the index by A without its sign"
+    "a summary changes the tray"
+    "the last place not seen by the summary"
+    "the row left as found"
+    "a number beside the row changed"
+    "put with a longer tray"
+    "put with a longer record"
+    "take with a longer tray"
+    "take with a longer record"
+    "take with a longer pair"
+    "summary of a longer tray"
+    "summary into a longer row"
+    "put into the last free place"
+    "the eighth number of a place left as found"
+    "all eight numbers of a place cleared"
+    "method 4 in a place not held"
+    "method 4 of a place in the record"
+    "the last of several places taken"
+    "a place's number read in 8 bits"
+    "fractions in the record of a place by A"
+    "the index by B with a sign"
+)
+
+# The number that follows: right, but with other fractions.
+right_trays=("fractions as wide as they may be, of pair and tray alike")
+
 build_compare sound
 "$work/sound" "${short[@]}" >"$work/out" 2>&1 || { cat "$work/out"; die "the real library fails the short run"; }
 
-# must_notice SOURCE NUMBER NAME WRAPS: the fault of that number, of that source.
+# must_notice SOURCE NUMBER NAME WRAPS OPTIONS: the fault of that number, of that source.
 must_notice() {
     local what
     build_compare wrong -DWRONG="$2" "$root/tests/compare/$1" "-Wl,$4"
-    if "$work/wrong" "${short[@]}" >"$work/out" 2>&1; then
+    if "$work/wrong" "${@:5}" >"$work/out" 2>&1; then
         die "not noticed: $3"
     fi
     what=$(sed -n 's/^compare: FAILED: //p' "$work/out" | head -1)
@@ -106,20 +173,29 @@ must_notice() {
 }
 
 for i in "${!wrong[@]}"; do
-    must_notice wrong.c $((i + 1)) "${wrong[$i]}" --wrap=vi_pair,--wrap=vi_sheet
+    must_notice wrong.c $((i + 1)) "${wrong[$i]}" --wrap=vi_pair,--wrap=vi_sheet "${short[@]}"
 done
 constants=--wrap=vi_constant_40,--wrap=vi_constant_100
 for i in "${!wrong_constants[@]}"; do
-    must_notice wrong_constants.c $((i + 1)) "${wrong_constants[$i]}" "$constants"
+    must_notice wrong_constants.c $((i + 1)) "${wrong_constants[$i]}" "$constants" "${short[@]}"
 done
 for i in "${!right_constants[@]}"; do
     build_compare right -DWRONG=$((${#wrong_constants[@]} + i + 1)) "$root/tests/compare/wrong_constants.c" "-Wl,$constants"
     "$work/right" "${short[@]}" >"$work/out" 2>&1 || { cat "$work/out"; die "not let pass: ${right_constants[$i]}"; }
     echo "passes: ${right_constants[$i]}: $(sed -n 's/^k from .*; widest/widest/p' "$work/out")"
 done
+trays=--wrap=vi_pair,--wrap=vi_tray_put,--wrap=vi_tray_take,--wrap=vi_tray_summary
+for i in "${!wrong_trays[@]}"; do
+    must_notice wrong_trays.c $((i + 1)) "${wrong_trays[$i]}" "$trays" "${short_trays[@]}"
+done
+for i in "${!right_trays[@]}"; do
+    build_compare right -DWRONG=$((${#wrong_trays[@]} + i + 1)) "$root/tests/compare/wrong_trays.c" "-Wl,$trays"
+    "$work/right" "${short_trays[@]}" >"$work/out" 2>&1 || { cat "$work/out"; die "not let pass: ${right_trays[$i]}"; }
+    echo "passes: ${right_trays[$i]}: $(sed -n 's/^index from .*; widest/widest/p' "$work/out")"
+done
 # Needs no library: the wrong ones are our own with another table.
 from=$root/tests/compare
 build digits "$from"/{digits,harness,pairs,constants,oil,constant}.c
 "$work/digits" || die "a changed digit is not noticed"
 
-echo "compare-bites: passed: $((${#wrong[@]} + ${#wrong_constants[@]})) wrong libraries noticed, the real one passes"
+echo "compare-bites: passed: $((${#wrong[@]} + ${#wrong_constants[@]} + ${#wrong_trays[@]})) wrong libraries noticed, the real one passes"
