@@ -1,5 +1,6 @@
 #!/usr/bin/env bash
-# The C functions, linked from the archive, on every question at its edge, on sheets of every shape and rows of every count: tests/c/calls.c.
+# The C functions, linked from the archive, on every question at its edge, on sheets of every shape, rows of every count and trays of every fill:
+# tests/c/calls.c.
 set -eu
 cd "$(dirname "$0")/.."
 work=$(mktemp -d)

@@ -1,8 +1,8 @@
 /*
  * Calls the library as firmware does: every question's number at its edge, buffers of no length, both orders of the blocks, gaps, 2,000
- * pairs, result blocks full of garbage, unaligned buffers, rows of every count that end where the memory ends. What a sheet should hold
- * after a call is put together here from its bytes before and from vi_pair's records, and all of it is compared, with the bytes on either
- * side of the buffer.
+ * pairs, result blocks full of garbage, unaligned buffers, rows of every count that end where the memory ends, trays from empty to full and back,
+ * stored, read-only and damaged. What a sheet or a tray should hold after a call is put together here from what it held before and from vi_pair's
+ * records, and all of it is compared, with the bytes on either side of the buffer.
  */
 #define _DEFAULT_SOURCE
 #include "viscosity_index.h"
@@ -337,6 +337,303 @@ static void row_counts(constant_call *call)
     check(call(9500, 8700, NULL, 0) == VI_CONSTANT_NOT_3, "no row", 0, VI_CONSTANT_NOT_3);
 }
 
+/* ---- trays ---- */
+
+enum { TRAY_LENT, RECORD_LENT, PAIR_LENT, SUMMARY_LENT, LENT, PAGE = 4096, MOST_AFTER = 24 };
+
+/* what is lent to a call with a tray: of each memory the last bytes of a page, or a few bytes before; and the page as it has to be afterwards */
+static uint8_t *pages[LENT], wanted_pages[LENT][PAGE];
+
+static void make_pages(void)
+{
+    const size_t page = (size_t)sysconf(_SC_PAGESIZE), room = page < PAGE ? PAGE : page;
+    for (unsigned i = 0; i < LENT; i++) {
+        uint8_t *memory = mmap(NULL, room + page, PROT_READ | PROT_WRITE, MAP_PRIVATE | MAP_ANONYMOUS, -1, 0);
+        if (memory == MAP_FAILED || mprotect(memory + room, page, PROT_NONE) != 0)
+            exit(2);
+        pages[i] = memory + room - PAGE;
+    }
+}
+
+static void *lend(unsigned which, size_t size, size_t after)
+{
+    fill(pages[which], PAGE);
+    memcpy(wanted_pages[which], pages[which], PAGE);
+    return pages[which] + PAGE - after - size;
+}
+
+/* `at` will hold these bytes */
+static void will_hold(unsigned which, const void *at, const void *bytes, size_t size)
+{
+    memcpy(wanted_pages[which] + ((const uint8_t *)at - pages[which]), bytes, size);
+}
+
+static void pages_are_right(uint32_t number)
+{
+    const char *const what = number == VI_ANSWERED ? "what a call with a tray leaves, and what stays" : "memory lent to a refused call with a tray";
+    for (unsigned i = 0; i < LENT; i++)
+        check(memcmp(pages[i], wanted_pages[i], PAGE) == 0, what, i, number);
+}
+
+/* the tray between two calls; each call is lent a copy */
+static uint32_t held[VI_TRAY_SIZE];
+
+static uint32_t *lend_tray(size_t after)
+{
+    uint32_t *tray = (uint32_t *)lend(TRAY_LENT, sizeof held, after);
+    memcpy(tray, held, sizeof held);
+    will_hold(TRAY_LENT, tray, held, sizeof held);
+    return tray;
+}
+
+/* the first place that is free, or that holds the number; VI_TRAY_PLACES if there is none */
+static size_t place_of(int is_free, uint32_t number)
+{
+    size_t i = 0;
+    for (; i < VI_TRAY_PLACES; i++) {
+        const uint32_t *place = held + VI_PLACE_SIZE * i;
+        const int free_place = place[VI_PLACE_METHOD] == VI_METHOD_REFUSED;
+        if (is_free ? free_place : !free_place && place[VI_PLACE_NUMBER] == number)
+            break;
+    }
+    return i;
+}
+
+static void put_is(uint8_t number, uint32_t u, uint32_t y, uint32_t wanted)
+{
+    uint32_t before[VI_TRAY_SIZE];
+    memcpy(before, held, sizeof held);
+    for (size_t after = 0; after <= MOST_AFTER; after += 8) {
+        memcpy(held, before, sizeof held);
+        uint32_t *tray = lend_tray(after);
+        uint8_t *record = (uint8_t *)lend(RECORD_LENT, VI_RECORD_SIZE, after / 8), answer[VI_RECORD_SIZE];
+        vi_pair(u, y, answer, sizeof answer);
+        const uint32_t got = vi_tray_put(tray, VI_TRAY_SIZE, number, u, y, record, VI_RECORD_SIZE);
+        check(got == wanted, "the number of a put", got, wanted);
+        if (wanted == VI_ANSWERED) {
+            uint32_t *place = held + VI_PLACE_SIZE * place_of(1, 0);
+            memset(place, 0, VI_PLACE_SIZE * sizeof *place);
+            place[VI_PLACE_METHOD] = answer[VI_RECORD_METHOD];
+            place[VI_PLACE_NUMBER] = number;
+            place[VI_PLACE_U] = u;
+            place[VI_PLACE_Y] = y;
+            place[VI_PLACE_INDEX] = get32(answer + VI_RECORD_INDEX);
+            place[VI_PLACE_LOWER] = get32(answer + VI_RECORD_LOWER);
+            place[VI_PLACE_UPPER] = get32(answer + VI_RECORD_UPPER);
+            will_hold(TRAY_LENT, tray, held, sizeof held);
+            will_hold(RECORD_LENT, record, answer, sizeof answer);
+        }
+        pages_are_right(wanted);
+    }
+}
+
+/* the pair that comes out, which is asked of vi_pair anew */
+static void take_is(uint8_t number, uint32_t wanted)
+{
+    uint32_t before[VI_TRAY_SIZE];
+    memcpy(before, held, sizeof held);
+    for (size_t after = 0; after <= MOST_AFTER; after += 8) {
+        memcpy(held, before, sizeof held);
+        uint32_t *tray = lend_tray(after), *pair = (uint32_t *)lend(PAIR_LENT, VI_SAMPLE_PAIR_SIZE * sizeof *pair, after);
+        uint8_t *record = (uint8_t *)lend(RECORD_LENT, VI_RECORD_SIZE, after / 8), answer[VI_RECORD_SIZE];
+        const uint32_t got = vi_tray_take(tray, VI_TRAY_SIZE, number, pair, VI_SAMPLE_PAIR_SIZE, record, VI_RECORD_SIZE);
+        check(got == wanted, "the number of a take", got, wanted);
+        if (wanted == VI_ANSWERED) {
+            uint32_t *place = held + VI_PLACE_SIZE * place_of(0, number), out[VI_SAMPLE_PAIR_SIZE];
+            out[VI_SAMPLE_PAIR_U] = place[VI_PLACE_U];
+            out[VI_SAMPLE_PAIR_Y] = place[VI_PLACE_Y];
+            vi_pair(place[VI_PLACE_U], place[VI_PLACE_Y], answer, sizeof answer);
+            place[VI_PLACE_METHOD] = VI_METHOD_REFUSED;
+            will_hold(TRAY_LENT, tray, held, sizeof held);
+            will_hold(PAIR_LENT, pair, out, sizeof out);
+            will_hold(RECORD_LENT, record, answer, sizeof answer);
+        }
+        pages_are_right(wanted);
+    }
+}
+
+static void summary_is(int64_t count, int64_t lowest, int64_t highest, int64_t sum, int64_t by_a, int64_t settled, int64_t near_half)
+{
+    int64_t row[VI_SUMMARY_SIZE];
+    row[VI_SUMMARY_HELD] = count;
+    row[VI_SUMMARY_LOWEST] = lowest;
+    row[VI_SUMMARY_HIGHEST] = highest;
+    row[VI_SUMMARY_SUM] = sum;
+    row[VI_SUMMARY_A] = by_a;
+    row[VI_SUMMARY_SETTLED] = settled;
+    row[VI_SUMMARY_NEAR] = near_half;
+    for (size_t after = 0; after <= MOST_AFTER; after += 8) {
+        const uint32_t *tray = lend_tray(after);
+        int64_t *out = (int64_t *)lend(SUMMARY_LENT, sizeof row, after);
+        const uint32_t got = vi_tray_summary(tray, VI_TRAY_SIZE, out, VI_SUMMARY_SIZE);
+        check(got == VI_ANSWERED, "the number of a summary", got, VI_ANSWERED);
+        will_hold(SUMMARY_LENT, out, row, sizeof row);
+        pages_are_right(VI_ANSWERED);
+    }
+}
+
+/* from empty to full and back, every question on the way; the first fails of several gives its number */
+static void tray_from_empty_to_full(void)
+{
+    memset(held, 0, sizeof held);
+    summary_is(0, 0, 0, 0, 0, 0, 0);
+    take_is(0, VI_NUMBER_NOT_HELD);
+    take_is(255, VI_NUMBER_NOT_HELD);
+    put_is(0, 73300, 8860, VI_ANSWERED);
+    put_is(255, 22830, 5050, VI_ANSWERED);
+    put_is(7, 8018, 2000, VI_ANSWERED);
+    summary_is(3, -1, 156, 247, 2, 1, 0);
+    put_is(0, 22830, 5050, VI_NUMBER_HELD);
+    put_is(0, 3000, 1999, VI_Y_BELOW_LEAST);
+    put_is(0, 600000, 500001, VI_Y_ABOVE_MOST);
+    put_is(0, 1000000001, 2000, VI_U_ABOVE_MOST);
+    put_is(0, 2000, 2000, VI_U_NOT_ABOVE_Y);
+    put_is(1, UINT32_MAX, UINT32_MAX, VI_Y_ABOVE_MOST);
+    for (unsigned i = 3; i < VI_TRAY_PLACES; i++)
+        put_is((uint8_t)(97 + i), 1000000000, 2000, VI_ANSWERED);
+    summary_is(64, -62499500, 156, 247 - (int64_t)61 * 62499500, 63, 1, 0);
+    put_is(1, 73300, 8860, VI_TRAY_FULL);
+    put_is(0, 73300, 8860, VI_NUMBER_HELD);
+    put_is(0, 3000, 1999, VI_Y_BELOW_LEAST);
+    put_is(1, 2000, 2000, VI_U_NOT_ABOVE_Y);
+    take_is(1, VI_NUMBER_NOT_HELD);
+    take_is(255, VI_ANSWERED);
+    take_is(255, VI_NUMBER_NOT_HELD);
+    put_is(1, 22830, 5050, VI_ANSWERED);
+    put_is(255, 22830, 5050, VI_TRAY_FULL);
+    for (unsigned i = 3; i < VI_TRAY_PLACES; i++)
+        take_is((uint8_t)(97 + i), VI_ANSWERED);
+    summary_is(3, -1, 156, 247, 2, 1, 0);
+    take_is(7, VI_ANSWERED);
+    summary_is(2, 92, 156, 248, 1, 1, 0);
+    take_is(1, VI_ANSWERED);
+    summary_is(1, 92, 92, 92, 1, 0, 0);
+    take_is(0, VI_ANSWERED);
+    summary_is(0, 0, 0, 0, 0, 0, 0);
+}
+
+/* a tray may be stored, and its summary taken where it cannot be written */
+static void tray_stored(void)
+{
+    int64_t row[VI_SUMMARY_SIZE];
+    memset(held, 0, sizeof held);
+    put_is(3, 73300, 8860, VI_ANSWERED);
+    FILE *file = tmpfile();
+    check(file != NULL && fwrite(held, sizeof held, 1, file) == 1, "a stored tray", 0, 1);
+    memset(held, 0, sizeof held);
+    if (file != NULL) {
+        rewind(file);
+        check(fread(held, sizeof held, 1, file) == 1, "a loaded tray", 0, 1);
+        fclose(file);
+    }
+    put_is(3, 22830, 5050, VI_NUMBER_HELD);
+    put_is(4, 144936, 16776, VI_ANSWERED); /* near */
+    summary_is(2, 92, 125, 217, 1, 0, 1);
+    const size_t page = (size_t)sysconf(_SC_PAGESIZE);
+    uint8_t *memory = (uint8_t *)mmap(NULL, page, PROT_READ | PROT_WRITE, MAP_PRIVATE | MAP_ANONYMOUS, -1, 0);
+    if (memory == MAP_FAILED)
+        exit(2);
+    memcpy(memory, held, sizeof held);
+    check(mprotect(memory, page, PROT_READ) == 0, "memory that cannot be written", 1, 0);
+    const uint32_t got = vi_tray_summary((const uint32_t *)(const void *)memory, VI_TRAY_SIZE, row, VI_SUMMARY_SIZE);
+    check(got == VI_ANSWERED && row[VI_SUMMARY_HELD] == 2 && row[VI_SUMMARY_SUM] == 217, "the summary of a tray that cannot be written", got, 0);
+    take_is(3, VI_ANSWERED);
+}
+
+/* all three calls with memories of these sizes: 5 where one of its own is not the right one, and nothing changes; of no size there may be no place */
+static void sizes_are(size_t tray_count, size_t length, size_t pair_count, size_t row_count)
+{
+    static const uint32_t oils[][2] = {{73300, 8860}, {3000, 1999}};
+    for (unsigned i = 0; i < 4; i++) {
+        uint32_t *tray = (uint32_t *)lend(TRAY_LENT, tray_count * sizeof *tray, 0);
+        uint8_t *record = (uint8_t *)lend(RECORD_LENT, length, 0);
+        uint32_t *pair = (uint32_t *)lend(PAIR_LENT, pair_count * sizeof *pair, 0);
+        int64_t *row = (int64_t *)lend(SUMMARY_LENT, row_count * sizeof *row, 0);
+        const int none = i >= 2, tray_right = tray_count == VI_TRAY_SIZE, record_right = length == VI_RECORD_SIZE;
+        tray = none && tray_count == 0 ? NULL : tray;
+        record = none && length == 0 ? NULL : record;
+        pair = none && pair_count == 0 ? NULL : pair;
+        row = none && row_count == 0 ? NULL : row;
+        uint32_t got = VI_TRAY_NOT_LENT;
+        if (!tray_right || !record_right)
+            got = vi_tray_put(tray, tray_count, 9, oils[i % 2][0], oils[i % 2][1], record, length);
+        check(got == VI_TRAY_NOT_LENT, "a put with other sizes", got, VI_TRAY_NOT_LENT);
+        if (!tray_right || !record_right || pair_count != VI_SAMPLE_PAIR_SIZE)
+            got = vi_tray_take(tray, tray_count, 9, pair, pair_count, record, length);
+        check(got == VI_TRAY_NOT_LENT, "a take with other sizes", got, VI_TRAY_NOT_LENT);
+        if (!tray_right || row_count != VI_SUMMARY_SIZE)
+            got = vi_tray_summary(tray, tray_count, row, row_count);
+        check(got == VI_TRAY_NOT_LENT, "a summary with other sizes", got, VI_TRAY_NOT_LENT);
+        pages_are_right(VI_TRAY_NOT_LENT);
+    }
+}
+
+static void tray_sizes(void)
+{
+    for (size_t count = 0; count <= VI_TRAY_SIZE + VI_PLACE_SIZE; count++)
+        sizes_are(count, VI_RECORD_SIZE, VI_SAMPLE_PAIR_SIZE, VI_SUMMARY_SIZE);
+    for (size_t length = 0; length <= 40; length++)
+        sizes_are(VI_TRAY_SIZE, length, VI_SAMPLE_PAIR_SIZE, VI_SUMMARY_SIZE);
+    for (size_t count = 0; count <= MOST_NUMBERS; count++) {
+        sizes_are(VI_TRAY_SIZE, VI_RECORD_SIZE, count, VI_SUMMARY_SIZE);
+        sizes_are(VI_TRAY_SIZE, VI_RECORD_SIZE, VI_SAMPLE_PAIR_SIZE, count);
+    }
+    sizes_are(0, 0, 0, 0);
+}
+
+/* the numbers in `held` are any: each call answers, and changes what the header says */
+static void any_tray(uint8_t number)
+{
+    int64_t count = 0;
+    for (size_t i = 0; i < VI_TRAY_PLACES; i++)
+        count += held[VI_PLACE_SIZE * i + VI_PLACE_METHOD] != VI_METHOD_REFUSED;
+    const uint32_t *read_only = lend_tray(0);
+    int64_t *row = (int64_t *)lend(SUMMARY_LENT, VI_SUMMARY_SIZE * sizeof *row, 0);
+    uint32_t got = vi_tray_summary(read_only, VI_TRAY_SIZE, row, VI_SUMMARY_SIZE);
+    check(got == VI_ANSWERED && row[VI_SUMMARY_HELD] == count, "the count of any tray", (unsigned long)row[VI_SUMMARY_HELD], (unsigned long)count);
+    const int64_t counted = row[VI_SUMMARY_A] + row[VI_SUMMARY_SETTLED] + row[VI_SUMMARY_NEAR];
+    check(counted == count, "the counts of A and B of any tray", (unsigned long)counted, (unsigned long)count);
+    will_hold(SUMMARY_LENT, row, row, VI_SUMMARY_SIZE * sizeof *row);
+    pages_are_right(VI_ANSWERED);
+    const size_t at = place_of(0, number);
+    put_is(number, 73300, 8860, at < VI_TRAY_PLACES ? VI_NUMBER_HELD : count == VI_TRAY_PLACES ? VI_TRAY_FULL : VI_ANSWERED);
+    if (place_of(0, number) == VI_TRAY_PLACES) {
+        take_is(number, VI_NUMBER_NOT_HELD);
+        return;
+    }
+    uint32_t *tray = lend_tray(0), *pair = (uint32_t *)lend(PAIR_LENT, VI_SAMPLE_PAIR_SIZE * sizeof *pair, 0);
+    uint8_t *record = (uint8_t *)lend(RECORD_LENT, VI_RECORD_SIZE, 0);
+    uint32_t *place = held + VI_PLACE_SIZE * place_of(0, number);
+    got = vi_tray_take(tray, VI_TRAY_SIZE, number, pair, VI_SAMPLE_PAIR_SIZE, record, VI_RECORD_SIZE);
+    check(got == VI_ANSWERED, "a take from any tray", got, VI_ANSWERED);
+    check(record[VI_RECORD_NUMBER] == 0 && record[VI_RECORD_METHOD] <= VI_METHOD_B_NEAR && record[2] == 0 && record[3] == 0, "a record of any tray",
+          record[VI_RECORD_METHOD], VI_METHOD_B_NEAR);
+    will_hold(RECORD_LENT, record, record, VI_RECORD_SIZE);
+    will_hold(PAIR_LENT, pair, place + VI_PLACE_U, VI_SAMPLE_PAIR_SIZE * sizeof *pair);
+    place[VI_PLACE_METHOD] = VI_METHOD_REFUSED;
+    will_hold(TRAY_LENT, tray, held, sizeof held);
+    pages_are_right(VI_ANSWERED);
+}
+
+static void damaged_trays(void)
+{
+    for (unsigned i = 0; i < 400; i++) {
+        fill((uint8_t *)held, sizeof held);
+        if (i % 4 == 1) /* small numbers, many of them twice */
+            for (size_t j = 0; j < VI_TRAY_SIZE; j++)
+                held[j] %= j % VI_PLACE_SIZE == VI_PLACE_METHOD ? 5 : 64;
+        if (i % 4 == 2)
+            memset(held, i % 8 == 2 ? 0xFF : (int)(any() % 256), sizeof held);
+        if (i % 4 == 3) { /* one sample, and one number changed */
+            memset(held, 0, sizeof held);
+            put_is((uint8_t)i, 22830, 5050, VI_ANSWERED);
+            held[any() % VI_PLACE_SIZE] = any() % 2 ? any() : any() % 4;
+        }
+        for (unsigned j = 0; j < 4; j++)
+            any_tray((uint8_t)(j % 2 ? held[VI_PLACE_SIZE * (any() % VI_TRAY_PLACES) + VI_PLACE_NUMBER] : any()));
+    }
+}
+
 int main(void)
 {
     pair_edges();
@@ -352,10 +649,15 @@ int main(void)
     constants_at_100();
     row_counts(vi_constant_40);
     row_counts(vi_constant_100);
+    make_pages();
+    tray_from_empty_to_full();
+    tray_stored();
+    tray_sizes();
+    damaged_trays();
     if (failures != 0) {
         printf("C calls: %u of %u checks failed\n", failures, checks);
         return 1;
     }
-    printf("C calls: %u checks of the pairs, the sheets and the constants\n", checks);
+    printf("C calls: %u checks of the pairs, the sheets, the constants and the trays\n", checks);
     return 0;
 }
