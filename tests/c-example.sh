@@ -1,5 +1,5 @@
 #!/usr/bin/env bash
-# The C example builds without a warning as C and as C++ against the header, links the archive, and prints what is stored beside it.
+# The C examples build without a warning as C and as C++ against the header, link the archive, and print what is stored beside them.
 set -eu
 cd "$(dirname "$0")/.."
 work=$(mktemp -d)
@@ -7,9 +7,11 @@ trap 'rm -rf "$work"' EXIT
 
 . tests/archive.bash
 flags=(-Wall -Wextra -Werror -O2 -Iinclude)
-gcc -std=c99 "${flags[@]}" samples/c/example.c "$archive" -o "$work/c"
-g++ -x c++ "${flags[@]}" samples/c/example.c -x none "$archive" -o "$work/c++"
-for program in c c++; do
-    "$work/$program" | diff - samples/c/example.stdout
+for example in example tray; do
+    gcc -std=c99 "${flags[@]}" "samples/c/$example.c" "$archive" -o "$work/c"
+    g++ -x c++ "${flags[@]}" "samples/c/$example.c" -x none "$archive" -o "$work/c++"
+    for program in c c++; do
+        "$work/$program" | diff - "samples/c/$example.stdout"
+    done
 done
-echo "C example: built by gcc and by g++, and both print the stored lines"
+echo "C examples: built by gcc and by g++, and both print the stored lines"
