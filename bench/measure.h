@@ -1,4 +1,4 @@
-/* What the measurements of an index and of a constant share: the same random oils in each run, the clock, and how a figure is reported. */
+/* What the measurements of an index, of a constant and of a tray share: the same random oils in each run, the clock, and how a figure is reported. */
 #ifndef MEASURE_H
 #define MEASURE_H
 
