@@ -1,11 +1,12 @@
 -- The questions to a call, and what it answers and leaves by the number that they give.
 use Prim.Native.Nat.{ℕ, _*_, _≤_, _<_}
-use mathlib.Core.Path.{_≡_, refl, sym, ap, _∙_}
+use mathlib.Core.Path.{_≡_, sym, ap, _∙_}
 use mathlib.Core.Bool.{false}
 use mathlib.Core.List.{List}
 use native.Mathlib.Omega.{arith}
-use borrow.Author.Tests.{lt-ltb, le-ltb, eq-eqb, ne-eqb}
-use lib.Dec.{eqb}
+use native.Mathlib.Nat.{le-of-eq}
+use borrow.Author.Tests.{lt-ltb, le-ltb, lt-leb, le-leb, eq-eqb, ne-eqb}
+use lib.Dec.{eqb, leb, ltb}
 use lib.ListN.{length}
 use Rattle.laws.proofs.Order.{by-order}
 use Rattle.index.specs.declared.answer.Answer.{Answer}
@@ -20,53 +21,71 @@ use Rattle.tray_places.specs.Places.{places, placeSize, traySize, numbersOf, fr
 use Rattle.tray_places.specs.Samples.{placeOf}
 use Rattle.tray_places.proofs.Found.{some-free, none-free, number-held, number-not-held}
 use Rattle.tray.specs.declared.Taken.the-variants as taken
-use Rattle.tray.specs.Tray.{heldAs, sampleWith, trayWith, holdRefusal, holdAnswer, trayHolding, putRefusal, putAnswer, trayAfterPut, takeRefusal, takeAnswer, trayAfterTake}
-
--- an answer with a number is a refusal by it
-refused-by : (a : Answer) → (numberOf a ≡ 0 → ⊥) → a ≡ answer.Refused (numberOf a)
-refused-by (answer.Refused n) h = refl
-refused-by (answer.A k) h = absurd (h refl)
-refused-by (answer.B b) h = absurd (h refl)
+use Rattle.tray.specs.Tray.{firstNo, heldAs, sampleWith, trayWith, holdRefusal, holdAnswer, trayHolding, putRefusal, putAnswer, trayAfterPut, takeRefusal, takeAnswer, trayAfterTake}
 
 some : (k : ℕ) → 0 < k → eqb k 0 ≡ false
 some k p = ne-eqb k 0 (λ (z : k ≡ 0). omega arith)
 
-above-zero : (k : ℕ) → (k ≡ 0 → ⊥) → 0 < k
-above-zero k h = by-order 0 k (λ p. p) (λ z. absurd (h (omega arith)))
+-- where every question is answered yes, a place is free
+pub place-free : (pair at free : ℕ) {k : ℕ} → k ≡ firstNo pair at free → k ≡ 0 → free < places
+unfolding firstNo
+place-free pair at free {k} e z =
+    by-order 0 pair (λ p. let is : k ≡ pair = rw (some pair p) at e in absurd (omega arith))
+    (λ q. by-order at places
+    (λ p. let is : k ≡ 31 = rw (eq-eqb pair 0 (omega arith), lt-leb places at p) at e in absurd (omega arith))
+    (λ r. by-order free places (λ p. p)
+    (λ p.
+    let is : k ≡ 32 = rw (eq-eqb pair 0 (omega arith), le-leb places at r, le-ltb free places p) at e in
+    absurd (omega arith))))
 
 module _ (l : List ℕ) (n : ℕ) where
-  -- ---- questions 31 and 32
-  pub no-31 : 0 < heldAs l n → holdRefusal l n ≡ 31
+  -- ---- the questions to a pair of that number
+  pub no-pair : (k : ℕ) → 0 < k → holdRefusal l n k ≡ k
+  unfolding holdRefusal
+  no-pair k p = rw (some k p)
+
+  pub no-31 : 0 < heldAs l n → holdRefusal l n 0 ≡ 31
   unfolding holdRefusal
   no-31 h = rw (some (heldAs l n) h)
 
-  pub no-32 : heldAs l n ≡ 0 → places ≤ length (heldIn l) → holdRefusal l n ≡ 32
+  pub no-32 : heldAs l n ≡ 0 → places ≤ length (heldIn l) → holdRefusal l n 0 ≡ 32
   unfolding holdRefusal
   no-32 h k = rw (h, le-ltb (length (heldIn l)) places k)
 
-  pub room : heldAs l n ≡ 0 → length (heldIn l) < places → holdRefusal l n ≡ 0
+  pub room : heldAs l n ≡ 0 → length (heldIn l) < places → holdRefusal l n 0 ≡ 0
   unfolding holdRefusal
   room h k = rw (h, lt-ltb (length (heldIn l)) places k)
 
-  module _ (u y : ℕ) (a : Answer) where
-    hold-refused : (k : ℕ) → holdRefusal l n ≡ k → 0 < k → (answer.Refused k ≡ holdAnswer l n a) × (l ≡ trayHolding l n u y a)
+  -- by places they are the same
+  is-new : eqb (heldAs l n) 0 ≡ leb places (placeOfNumber l n)
+  is-new =
+      by-order (placeOfNumber l n) places
+      (λ h. some (heldAs l n) (number-held l n h) ∙ sym (lt-leb places (placeOfNumber l n) h))
+      (λ h. eq-eqb (heldAs l n) 0 (number-not-held l n h) ∙ sym (le-leb places (placeOfNumber l n) h))
+
+  is-room : ltb (length (heldIn l)) places ≡ ltb (freePlace l) places
+  is-room =
+      by-order (freePlace l) places
+      (λ h. lt-ltb (length (heldIn l)) places (some-free l h) ∙ sym (lt-ltb (freePlace l) places h))
+      (λ h. le-ltb (length (heldIn l)) places (le-of-eq (sym (none-free l h))) ∙ sym (le-ltb (freePlace l) places h))
+
+  by-places : (k : ℕ) → firstNo k (placeOfNumber l n) (freePlace l) ≡ holdRefusal l n k
+  unfolding firstNo holdRefusal
+  by-places k = rw (is-new, is-room)
+
+  module _ (u y : ℕ) (a : Answer) {k pair at free : ℕ} (k-is : k ≡ firstNo pair at free) (pair-is : pair ≡ numberOf a)
+      (at-is : at ≡ placeOfNumber l n) (free-is : free ≡ freePlace l) where
+    asked : k ≡ holdRefusal l n (numberOf a)
+    asked = rw (pair-is, at-is, free-is) at k-is ∙ by-places (numberOf a)
+
+    pub hold-refused : (k ≡ 0 → ⊥) → (answer.Refused k ≡ holdAnswer l n a) × (l ≡ trayHolding l n u y a)
     unfolding holdAnswer trayHolding
-    hold-refused k e p = (rw (e, some k p), rw (e, some k p))
+    hold-refused h = (rw (← asked, ne-eqb k 0 h), rw (← asked, ne-eqb k 0 h))
 
-    pub hold-31 : {i : ℕ} → i ≡ placeOfNumber l n → i < places → (answer.Refused 31 ≡ holdAnswer l n a) × (l ≡ trayHolding l n u y a)
-    hold-31 e h = hold-refused 31 (no-31 (number-held l n (rw e at h))) (omega arith)
-
-    pub hold-32 : {i j : ℕ} → i ≡ placeOfNumber l n → places ≤ i → j ≡ freePlace l → places ≤ j
-        → (answer.Refused 32 ≡ holdAnswer l n a) × (l ≡ trayHolding l n u y a)
-    hold-32 e h f k =
-        hold-refused 32 (no-32 (number-not-held l n (rw e at h)) (omega (arith, none-free l (rw f at k)))) (omega arith)
-
-    pub hold-held : {i j : ℕ} {p : Place} {m : List ℕ} → i ≡ placeOfNumber l n → places ≤ i → j ≡ freePlace l → j < places
-        → p ≡ placeOf (sampleWith n u y a) → m ≡ stored l (placeSize * j) (numbersOf p) → (a ≡ holdAnswer l n a) × (m ≡ trayHolding l n u y a)
+    pub hold-held : {p : Place} {m : List ℕ} → k ≡ 0 → p ≡ placeOf (sampleWith n u y a) → m ≡ stored l (placeSize * free) (numbersOf p)
+        → (a ≡ holdAnswer l n a) × (m ≡ trayHolding l n u y a)
     unfolding holdAnswer trayHolding
-    hold-held e h f k q s =
-        let none = room (number-not-held l n (rw e at h)) (some-free l (rw f at k)) in
-        (rw none, rw none (rw (f, q) at s))
+    hold-held z q s = let none : holdRefusal l n (numberOf a) ≡ 0 = sym asked ∙ z in (rw none, rw none (rw (free-is, q) at s))
 
   -- ---- putting in
   module _ (u y : ℕ) where
@@ -74,13 +93,9 @@ module _ (l : List ℕ) (n : ℕ) where
     unfolding putRefusal
     put-size h = rw (ne-eqb (length l) traySize h)
 
-    pub pair-refused : length l ≡ traySize → (refusal u y ≡ 0 → ⊥) → putRefusal l n u y ≡ refusal u y
+    pub put-sized : length l ≡ traySize → putRefusal l n u y ≡ holdRefusal l n (refusal u y)
     unfolding putRefusal
-    pair-refused h r = rw (eq-eqb (length l) traySize h, ne-eqb (refusal u y) 0 r)
-
-    pub pair-passed : length l ≡ traySize → refusal u y ≡ 0 → putRefusal l n u y ≡ holdRefusal l n
-    unfolding putRefusal
-    pair-passed h r = rw (eq-eqb (length l) traySize h, r)
+    put-sized h = rw (eq-eqb (length l) traySize h)
 
     -- by the number that the questions give
     pub put-by : (k : ℕ) → putRefusal l n u y ≡ k → 0 < k → (putAnswer l n u y ≡ answer.Refused k) × (trayAfterPut l n u y ≡ l)
@@ -95,21 +110,12 @@ module _ (l : List ℕ) (n : ℕ) where
     pub put-5 : (length l ≡ traySize → ⊥) → (answer.Refused 5 ≡ putAnswer l n u y) × (l ≡ trayAfterPut l n u y)
     put-5 h = let by = put-by 5 (put-size h) (omega arith) in (sym (by .0), sym (by .1))
 
-    pub put-refused : {a : Answer} {k : ℕ} → length l ≡ traySize → a ≡ answerOf u y → RightAnswer u y a → k ≡ numberOf a → (k ≡ 0 → ⊥)
-        → (a ≡ putAnswer l n u y) × (l ≡ trayAfterPut l n u y)
-    put-refused {a} {k} h e right number some =
-        let same : numberOf a ≡ refusal u y = right .number in
-        let no : refusal u y ≡ 0 → ⊥ = λ (z : refusal u y ≡ 0). some (number ∙ same ∙ z) in
-        let is : a ≡ answer.Refused (refusal u y) = refused-by a (λ (z : numberOf a ≡ 0). some (number ∙ z)) ∙ ap answer.Refused same in
-        let by = put-by (refusal u y) (pair-refused h no) (above-zero (refusal u y) no) in
-        (is ∙ sym (by .0), sym (by .1))
-
-    pub put-held : {a r : Answer} {m : List ℕ} {k : ℕ} → length l ≡ traySize → a ≡ answerOf u y → RightAnswer u y a → k ≡ numberOf a → k ≡ 0
-        → r ≡ holdAnswer l n a → m ≡ trayHolding l n u y a → (r ≡ putAnswer l n u y) × (m ≡ trayAfterPut l n u y)
+    pub put-held : {a r : Answer} {m : List ℕ} → length l ≡ traySize → a ≡ answerOf u y → RightAnswer u y a → r ≡ holdAnswer l n a
+        → m ≡ trayHolding l n u y a → (r ≡ putAnswer l n u y) × (m ≡ trayAfterPut l n u y)
     unfolding putAnswer trayAfterPut holdAnswer trayHolding
-    put-held {a} {r} {m} {k} h e right number none answered numbers =
-        let passed : refusal u y ≡ 0 = sym (right .number) ∙ sym number ∙ none in
-        (rw (pair-passed h passed) (rw e at answered), rw (pair-passed h passed) (rw e at numbers))
+    put-held {a} {r} {m} h e right answered numbers =
+        let same : numberOf (answerOf u y) ≡ refusal u y = sym (ap numberOf e) ∙ right .number in
+        (rw (put-sized h) (rw (e, same) at answered), rw (put-sized h) (rw (e, same) at numbers))
 
   -- ---- taking out
   take-size : (length l ≡ traySize → ⊥) → takeRefusal l n ≡ 5

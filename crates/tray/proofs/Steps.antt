@@ -10,39 +10,25 @@ use Rattle.laws.proofs.Order.{by-test, by-order}
 use Rattle.index.specs.declared.answer.Answer.{Answer}
 use Rattle.index.specs.declared.answer.Answer.the-variants as answer
 use Rattle.index.specs.Questions.{refusal}
-use Rattle.index.specs.Answer.{methodOf, RightAnswer}
+use Rattle.index.specs.Answer.{RightAnswer}
 use Rattle.index.specs.ChosenAnswer.{answerOf}
-use Rattle.index.proofs.Fits.{fits}
 use Rattle.index.proofs.Right.{right}
 use Rattle.answer_record.specs.Bytes.{stored}
 use Rattle.answer_record.proofs.Stores.{length-stored}
 use Rattle.tray_places.specs.declared.samples.Sample.{Sample}
-use Rattle.tray_places.specs.Samples.{placeOf, sampleOf}
+use Rattle.tray_places.specs.Samples.{placeOf}
 use Rattle.tray_places.specs.Places.{places, placeSize, traySize, numbersOf, freed, sampleAt, placeOfNumber, freePlace, heldIn}
 use Rattle.tray_places.specs.Counts.{one, times, numbered}
 use Rattle.tray_places.proofs.Held.{times-none, times-one}
-use Rattle.tray_places.proofs.Kept.{length-numbers, place-there, held-there, length-freed, free-there}
-use Rattle.tray_places.proofs.Found.{held-most, free-is-free, none-free, found-is-held, found-number, number-not-held, filled, emptied}
-use Rattle.tray_places.proofs.Same.{mark-method}
-use Rattle.tray_places.proofs.SamplesBack.{sample-back}
+use Rattle.tray_places.proofs.Kept.{length-numbers, length-freed}
+use Rattle.tray_places.proofs.Found.{every-tray, held-most, free-is-free, none-free, found-is-held, found-number, number-not-held, filled, emptied}
+use Rattle.tray_places.proofs.SamplesBack.{method-some}
 use Rattle.tray.specs.declared.Taken.the-variants as taken
-use Rattle.tray.specs.Tray.{heldAs, sampleWith, trayWith, putAnswer, trayAfterPut, takeAnswer, trayAfterTake}
+use Rattle.tray.specs.Tray.{heldAs, holdRefusal, putRefusal, sampleWith, trayWith, putAnswer, trayAfterPut, takeAnswer, trayAfterTake}
 use Rattle.tray.specs.Calls.{Call, Put, Take, Ask, after, inBy, outBy, takenIn, takenOut}
-use Rattle.tray.proofs.Questions.{no-31, no-32, room, pair-refused, pair-passed, put-by, put-passed, no-33, held, take-by, take-passed}
+use Rattle.tray.proofs.Questions.{no-pair, no-31, no-32, room, put-sized, put-by, put-passed, no-33, held, take-by, take-passed}
 
 -- ---- an answered pair
-
-method-some : (u y : ℕ) (a : Answer) → RightAnswer u y a → refusal u y ≡ 0 → methodOf a ≡ 0 → ⊥
-method-some u y (answer.Refused k) r e z =
-    let number : k ≡ refusal u y = r .number in
-    let some : 0 < k = r .case in
-    omega arith
-method-some u y (answer.A k) r e z = omega (arith, z)
-method-some u y (answer.B b) r e z = omega (arith, z, mark-method (b .mark))
-
-placed-some : (s : Sample) → (methodOf (s .answer) ≡ 0 → ⊥) → placeOf s .method ≡ 0 → ⊥
-unfolding placeOf
-placed-some s h z = h z
 
 -- an answered pair is a sample
 sample-in : (n u y : ℕ) (a : Answer) → RightAnswer u y a → refusal u y ≡ 0 → inBy n u y a ≡ sampleWith n u y a ∷ []
@@ -54,31 +40,31 @@ module _ (l : List ℕ) (h : length l ≡ traySize) (n : ℕ) where
   -- ---- the outcomes of a put
   module _ (u y : ℕ) where
     pub pair-first : 0 < refusal u y → (putAnswer l n u y ≡ answer.Refused (refusal u y)) × (trayAfterPut l n u y ≡ l)
-    pair-first p = put-by l n u y (refusal u y) (pair-refused l n u y h (λ (z : refusal u y ≡ 0). omega arith)) p
+    pair-first p = put-by l n u y (refusal u y) (put-sized l n u y h ∙ no-pair l n (refusal u y) p) p
 
     module _ (passed : refusal u y ≡ 0) where
+      sized : putRefusal l n u y ≡ holdRefusal l n 0
+      sized = put-sized l n u y h ∙ ap (holdRefusal l n) passed
+
       pub refused-31 : 0 < heldAs l n → (putAnswer l n u y ≡ answer.Refused 31) × (trayAfterPut l n u y ≡ l)
-      refused-31 k = put-by l n u y 31 (pair-passed l n u y h passed ∙ no-31 l n k) (omega arith)
+      refused-31 k = put-by l n u y 31 (sized ∙ no-31 l n k) (omega arith)
 
       pub refused-32 : heldAs l n ≡ 0 → length (heldIn l) ≡ places → (putAnswer l n u y ≡ answer.Refused 32) × (trayAfterPut l n u y ≡ l)
-      refused-32 k f = put-by l n u y 32 (pair-passed l n u y h passed ∙ no-32 l n k (omega arith)) (omega arith)
+      refused-32 k f = put-by l n u y 32 (sized ∙ no-32 l n k (omega arith)) (omega arith)
 
       abbrev s : Sample
       s = sampleWith n u y (answerOf u y)
 
       pub put-answered : heldAs l n ≡ 0 → length (heldIn l) < places → (putAnswer l n u y ≡ answerOf u y) × (trayAfterPut l n u y ≡ trayWith l s)
-      put-answered k f = put-passed l n u y (pair-passed l n u y h passed ∙ room l n k f)
+      put-answered k f = put-passed l n u y (sized ∙ room l n k f)
 
       pub one-in : length (heldIn l) < places → (test : Sample → Bool) → times test (heldIn (trayWith l s)) ≡ times test (heldIn l) + one (test s)
       one-in f test =
           let k = freePlace l in
           let within : k < places = by-order k places (λ b. b) (λ b. absurd (omega (arith, none-free l b))) in
-          let there : placeSize * k + placeSize ≤ length l = omega arith in
-          let some = method-some u y (answerOf u y) (right u y) passed in
-          let is : sampleAt (trayWith l s) k ≡ s = ap sampleOf (place-there (placeOf s) l k there) ∙ sample-back s some (fits u y) in
-          filled l (numbersOf (placeOf s)) k (omega (arith, length-numbers (placeOf s))) within test (free-is-free l within)
-          (held-there (placeOf s) l k there (placed-some s some))
-          ∙ ap (λ (x : Sample). times test (heldIn l) + one (test x)) is
+          let stores = every-tray l .stores s k within h passed refl in
+          filled l (numbersOf (placeOf s)) k (omega (arith, length-numbers (placeOf s))) within test (free-is-free l within) (stores .0)
+          ∙ ap (λ (x : Sample). times test (heldIn l) + one (test x)) (stores .1)
 
   -- ---- the outcomes of a take
   abbrev k : ℕ
@@ -100,7 +86,7 @@ module _ (l : List ℕ) (h : length l ≡ traySize) (n : ℕ) where
       → times test (heldIn l) ≡ times test (heldIn (stored l (placeSize * k) freed)) + one (test (sampleAt l k))
   one-out p test =
       let within = found-within p in
-      emptied l freed k (omega (arith, length-freed)) within test (found-is-held l n within) (free-there l k (omega arith))
+      emptied l freed k (omega (arith, length-freed)) within test (found-is-held l n within) (every-tray l .frees k within h)
 
 -- ---- what a call does, in three kinds
 

@@ -5,7 +5,7 @@ use mathlib.Core.Bool.{Bool, true, false, cond}
 use mathlib.Core.List.{List, [], _∷_, _++_, map, map-append, append-assoc, append-nil}
 use native.Mathlib.Numerals.{add-one}
 use native.Mathlib.Omega.{arith}
-use borrow.Author.Tests.{lt-ltb, le-ltb}
+use borrow.Author.Tests.{eqb-true, eqb-false, lt-ltb, le-ltb}
 use lib.Dec.{eqb}
 use lib.ListN.{length, length-append, getD}
 use lib.Signed.{mag}
@@ -24,7 +24,8 @@ use Rattle.tray_places.specs.Places.{places, traySize, isHeld, sampleAt, among,
 use Rattle.tray_places.proofs.Held.{among-zero, next-free, next-held}
 use Rattle.tray.specs.declared.state.State.{State}
 use Rattle.tray.specs.declared.state.State.the-variants.{Refused, Empty, Holding}
-use Rattle.tray.specs.State.{withAnswer, stateAfter, RightState}
+use Rattle.tray.specs.Tray.{isTray}
+use Rattle.tray.specs.State.{withAnswer, stateAfter, stateOf, RightState}
 use Rattle.tray.specs.Preconditions.{Within}
 
 -- ---- one place more
@@ -161,3 +162,8 @@ right-of l (Holding t) h r = (h, r, omega (arith, r .a-is, r .settled-is, r .nea
 
 pub walk-right : (l : List ℕ) {st : State} → length l ≡ traySize → st ≡ stateAfter Empty (heldIn l) → RightState l st
 walk-right l {st} h e = right-of l st h (subst (StateOf (heldIn l)) (sym e) (after-right [] (heldIn l) Empty refl))
+
+pub state-right : (l : List ℕ) → RightState l (stateOf l)
+unfolding stateOf
+state-right l =
+    by-test (isTray l) (λ e. rw e (walk-right l (eqb-true (length l) traySize e) refl)) (λ e. rw e (refl, eqb-false (length l) traySize e))

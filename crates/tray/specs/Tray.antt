@@ -3,12 +3,13 @@
 use Prim.Native.Nat.{ℕ, _*_}
 use mathlib.Core.Bool.{Bool, cond}
 use mathlib.Core.List.{List}
-use lib.Dec.{eqb, ltb}
+use lib.Dec.{eqb, leb, ltb}
 use lib.ListN.{length}
 use Rattle.laws.specs.Questions.{ask}
 use Rattle.index.specs.declared.answer.Answer.{Answer}
 use Rattle.index.specs.declared.answer.Answer.the-variants as answer
 use Rattle.index.specs.Questions.{refusal}
+use Rattle.index.specs.Answer.{numberOf}
 use Rattle.index.specs.ChosenAnswer.{answerOf}
 use Rattle.answer_record.specs.Bytes.{stored}
 use Rattle.tray_places.specs.declared.samples.Sample.{Sample}
@@ -28,25 +29,31 @@ isTray tray = eqb (length tray) traySize
 abbrev pub heldAs : List ℕ → ℕ → ℕ
 heldAs tray number = times (numbered number) (heldIn tray)
 
--- the number of a question that has refused already, or else of those that follow
+-- the number of the questions that came before, or else of those that follow
 abbrev pub orElse : ℕ → ℕ → ℕ
 orElse number following = cond (eqb number 0) following number
 
--- the questions to an answered pair; 0 where none refuses
-unfoldable pub holdRefusal : List ℕ → ℕ → ℕ
-holdRefusal tray number =
+-- the questions to a pair of that number: 0 where none refuses
+unfoldable pub holdRefusal : List ℕ → ℕ → ℕ → ℕ
+holdRefusal tray number pair =
+    -- "both after the pair's own questions"
+    orElse pair
     -- "31 number already held"
-    ask (eqb (heldAs tray number) 0) 31
+    (ask (eqb (heldAs tray number) 0) 31
     -- "32 tray full"
-    (ask (ltb (length (heldIn tray)) places) 32 0)
+    (ask (ltb (length (heldIn tray)) places) 32 0))
 
--- the questions to a put, "both after the pair's own"
+-- the questions to a put
 unfoldable pub putRefusal : List ℕ → ℕ → ℕ → ℕ → ℕ
-putRefusal tray number u y = ask (isTray tray) 5 (orElse (refusal u y) (holdRefusal tray number))
+putRefusal tray number u y = ask (isTray tray) 5 (holdRefusal tray number (refusal u y))
 
 -- the questions to a take: "33 number not held"
 unfoldable pub takeRefusal : List ℕ → ℕ → ℕ
 takeRefusal tray number = ask (isTray tray) 5 (ask (ltb 0 (heldAs tray number)) 33 0)
+
+-- the same questions by places, as the code asks them: the place where the number is held, and the first free one
+unfoldable pub firstNo : ℕ → ℕ → ℕ → ℕ
+firstNo pair at free = orElse pair (ask (leb places at) 31 (ask (ltb free places) 32 0))
 
 -- ---- putting in
 
@@ -57,12 +64,12 @@ sampleWith number u y a = record { number = number; u = u; y = y; answer = a }
 abbrev pub trayWith : List ℕ → Sample → List ℕ
 trayWith tray s = stored tray (placeSize * freePlace tray) (numbersOf (placeOf s))
 
--- of an answered pair: its answer and the tray that holds it; or refused, and the tray as it was
+-- of a pair with its answer: the answer, and the tray that holds it; or refused, and the tray as it was
 unfoldable pub holdAnswer : List ℕ → ℕ → Answer → Answer
-holdAnswer tray number a = cond (eqb (holdRefusal tray number) 0) a (answer.Refused (holdRefusal tray number))
+holdAnswer tray number a = cond (eqb (holdRefusal tray number (numberOf a)) 0) a (answer.Refused (holdRefusal tray number (numberOf a)))
 
 unfoldable pub trayHolding : List ℕ → ℕ → ℕ → ℕ → Answer → List ℕ
-trayHolding tray number u y a = cond (eqb (holdRefusal tray number) 0) (trayWith tray (sampleWith number u y a)) tray
+trayHolding tray number u y a = cond (eqb (holdRefusal tray number (numberOf a)) 0) (trayWith tray (sampleWith number u y a)) tray
 
 -- "Putting in takes a number, u and y and gives the pair's answer"
 unfoldable pub putAnswer : List ℕ → ℕ → ℕ → ℕ → Answer

@@ -6,7 +6,7 @@ mod state;
 ghost use mathlib.Core.Path.{_≡_};
 ghost use lib.ListN.{length};
 ghost use Rattle.tray_places.specs.Places.{traySize};
-ghost use Rattle.tray.specs.Tray.{holdAnswer, trayHolding, putAnswer, trayAfterPut, takeAnswer, trayAfterTake};
+ghost use Rattle.tray.specs.Tray.{firstNo, holdAnswer, trayHolding, putAnswer, trayAfterPut, takeAnswer, trayAfterTake};
 use index::Answer;
 use index::answer::ANSWERED;
 use index::answer::number_of;
@@ -39,18 +39,34 @@ pub enum Taken {
     Out(Sample),
 }
 
-// Takes an answered pair in: questions 31 and 32.
+// The first question that is answered no, of a put whose pair has the number `pair`, whose number is held in place `at` and for which place `free` is free;
+// PLACES says that there is no such place.
+fn first_no(pair: u8, at: usize, free: usize) -> u8
+    ensures { λ r. ⌜ r ≡ firstNo pair at free ⌝ }
+{
+    if pair != ANSWERED {
+        return pair;
+    }
+    if at < PLACES {
+        return NUMBER_HELD;
+    }
+    if PLACES <= free {
+        return TRAY_FULL;
+    }
+    ANSWERED
+}
+
+// Takes a pair in with its answer, unless a question refuses it.
 fn hold(tray: &mut [u32], number: u32, u: u32, y: u32, answer: Answer) -> Answer
     requires { ⌜ length (now tray) ≡ traySize ⌝ }
     ensures answer { λ r. ⌜ r ≡ holdAnswer (now (tray .entry)) number answer ⌝ }
     ensures numbers { λ _. ⌜ now (tray .exit) ≡ trayHolding (now (tray .entry)) number u y answer ⌝ }
 {
-    if place_of_number(tray, number) < PLACES {
-        return Answer::Refused(NUMBER_HELD);
-    }
+    let at = place_of_number(tray, number);
     let i = free_place(tray);
-    if PLACES <= i {
-        return Answer::Refused(TRAY_FULL);
+    let refused = first_no(number_of(answer), at, i);
+    if refused != ANSWERED {
+        return Answer::Refused(refused);
     }
     let place = place_of(Sample {
         number,
@@ -71,9 +87,6 @@ pub fn put(tray: &mut [u32], number: u8, u: u32, y: u32) -> Answer
         return Answer::Refused(NOT_A_TRAY);
     }
     let answer = index::answer_pair(u, y);
-    if number_of(answer) != ANSWERED {
-        return answer;
-    }
     hold(tray, number as u32, u, y, answer)
 }
 

@@ -1,2 +1,3 @@
 -- The laws of the calls.
 pub mod Calls
+pub mod Refused

@@ -13,11 +13,12 @@ use Rattle.laws.proofs.Order.{by-order}
 use Rattle.answer_record.specs.Bytes.{stored}
 use Rattle.tray_places.specs.declared.samples.Sample.{Sample}
 use Rattle.tray_places.specs.Samples.{sampleOf}
-use Rattle.tray_places.specs.Places.{places, placeSize, traySize, emptyTray, isFree, isHeld, isHeldAs, numberIn, sampleAt, placeOfNumber, freePlace, heldIn}
+use Rattle.tray_places.specs.Places.{places, placeSize, traySize, emptyTray, isFree, isHeld, isHeldAs, numberIn, sampleAt, placeOfNumber, freePlace, heldIn, EveryTray, Zeros}
 use Rattle.tray_places.specs.Counts.{one, times, numbered}
 use Rattle.tray_places.proofs.First.{first-passes, none-passes}
 use Rattle.tray_places.proofs.Held.{none-among, some-among, most-among, free-among, all-among, none-held, one-more}
-use Rattle.tray_places.proofs.Kept.{place-same, held-same}
+use Rattle.tray_places.proofs.Kept.{place-same, held-same, free-there}
+use Rattle.tray_places.proofs.SamplesBack.{stored-held, stored-sample}
 
 -- ---- finding a place
 
@@ -101,3 +102,19 @@ unfolding emptyTray heldIn
 empty-holds =
     none-held (isHeld (replicate traySize 0)) (sampleAt (replicate traySize 0)) places
     (λ (k : ℕ) (b : k < places). rw (getD-replicate {A = ℕ} traySize (placeSize * k) 0 0 (omega arith)))
+
+pub zeros : Zeros
+zeros = record { size = empty-size; holds = empty-holds }
+
+-- ---- every tray
+
+all-held : (l : List ℕ) → ((i : ℕ) → i < 64 → isHeld l i ≡ true) → length (heldIn l) ≡ 64
+unfolding heldIn
+all-held l f = all-among (isHeld l) (sampleAt l) places f
+
+pub every-tray : (l : List ℕ) → EveryTray l
+every-tray l = record {
+  sixty-four = all-held l;
+  frees = λ i b h. free-there l i (omega arith);
+  stores = λ s i b h passed alone. (stored-held s passed alone l i (omega arith), stored-sample s passed alone l i (omega arith));
+}

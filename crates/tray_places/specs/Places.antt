@@ -1,13 +1,17 @@
 -- Change request #102: "A tray holds up to 64 samples". A tray is the list of its numbers: 64 places of eight, and of a place the first number is 0 where
 -- it is free. Memory of zeros is the empty tray.
-use Prim.Native.Nat.{ℕ, zero, suc, _+_, _*_}
-use mathlib.Core.Bool.{Bool, cond, not, _&&_}
+use Prim.Native.Nat.{ℕ, zero, suc, _+_, _*_, _<_}
+use mathlib.Core.Path.{_≡_}
+use mathlib.Core.Bool.{Bool, true, false, cond, not, _&&_}
 use mathlib.Core.List.{List, [], _∷_, _++_}
 use lib.Dec.{eqb, ltb}
-use lib.ListN.{getD, replicate}
+use lib.ListN.{length, getD, replicate}
+use Rattle.index.specs.Questions.{refusal}
+use Rattle.index.specs.ChosenAnswer.{answerOf}
+use Rattle.answer_record.specs.Bytes.{stored}
 use Rattle.tray_places.specs.declared.samples.Sample.{Sample}
 use Rattle.tray_places.specs.declared.samples.Place.{Place}
-use Rattle.tray_places.specs.Samples.{sampleOf}
+use Rattle.tray_places.specs.Samples.{placeOf, sampleOf}
 
 -- how many places a tray has, how many numbers a place, and how many numbers the tray
 abbrev pub places : ℕ
@@ -85,3 +89,19 @@ among held sample (suc i) = among held sample i ++ cond (held i) (sample i ∷ [
 
 unfoldable pub heldIn : List ℕ → List Sample
 heldIn tray = among (isHeld tray) (sampleAt tray) places
+
+-- ---- what holds of every tray, whatever its numbers are
+
+pub record EveryTray (tray : List ℕ) : Type 0 where
+  -- with 64 places held, 64 samples are
+  pub sixty-four : ((i : ℕ) → i < 64 → isHeld tray i ≡ true) → length (heldIn tray) ≡ 64
+  -- a place that is freed is free
+  pub frees : (i : ℕ) → i < 64 → length tray ≡ 512 → isHeld (stored tray (placeSize * i) freed) i ≡ false
+  -- a sample that is stored is held, and is the one that is read, if its answer is the one that its pair gets
+  pub stores : (s : Sample) (i : ℕ) → i < 64 → length tray ≡ 512 → refusal (s .u) (s .y) ≡ 0 → s .answer ≡ answerOf (s .u) (s .y)
+      → (isHeld (stored tray (placeSize * i) (numbersOf (placeOf s))) i ≡ true) × (sampleAt (stored tray (placeSize * i) (numbersOf (placeOf s))) i ≡ s)
+
+-- memory of zeros is the empty tray
+pub record Zeros : Type 0 where
+  pub size : length emptyTray ≡ 512
+  pub holds : heldIn emptyTray ≡ []

@@ -1,5 +1,7 @@
--- By questions 31 and 32.
-use Rattle.tray.proofs.Questions.{hold-31, hold-32, hold-held}
+-- By the first question that is answered no.
+use Prim.Native.Nat.{_<_}
+use Rattle.tray_places.specs.Places.{places}
+use Rattle.tray.proofs.Questions.{place-free, hold-refused, hold-held}
 use borrow.Author.Needs.{needs}
 use Rattle.tray.proofs.hold.Statement.{statement}
 use Rattle.tray.proofs.hold.Tie as tie
@@ -7,54 +9,62 @@ use Rattle.tray.proofs.hold.Tie as tie
 place-of-number-requires : tie.Need-place-of-number-requires
 place-of-number-requires c κs = search needs
 
+free-place-requires : tie.Need-free-place-requires
+free-place-requires c κs = search needs
+
+number-of-requires : tie.Need-number-of-requires
+number-of-requires c κs = search needs
+
+first-no-requires : tie.Need-first-no-requires
+first-no-requires c κs = search needs
+
 same-length : tie.Need-same-length
 same-length c = search needs
 
 returns : tie.Need-returns
-returns c = hold-31 _ _ _ _ _ (c .before .place-of-number .ensures) (c .if1 .taken)
+returns c =
+    let asked = c .before in
+    let at-number = asked .before in
+    let at-free = at-number .before in
+    let at-place = at-free .before .before in
+    hold-refused _ _ _ _ _ (asked .first-no .ensures) (at-number .number-of .ensures) (at-place .place-of-number .ensures) (at-free .free-place .ensures)
+    (c .if1 .taken)
 
-free-place-requires : tie.Need-free-place-requires
-free-place-requires c κs = search needs
+place-of-requires : tie.Need-place-of-requires
+place-of-requires c κs = search needs
+
+store-place-requires : tie.Need-store-place-requires
+store-place-requires c κs =
+    let passed = c .before .before in
+    let free : passed .before .before .before .free-place .result < places = place-free _ _ _ (passed .before .first-no .ensures) (passed .if1 .left) in
+    search needs
 
 same-length-2 : tie.Need-same-length-2
 same-length-2 c = search needs
 
 returns-2 : tie.Need-returns-2
 returns-2 c =
-    let at-free = c .before in
-    let other = at-free .before .before in
-    hold-32 _ _ _ _ _ (other .before .place-of-number .ensures) (other .if1 .left) (at-free .free-place .ensures) (c .if2 .taken)
-
-place-of-requires : tie.Need-place-of-requires
-place-of-requires c κs = search needs
-
-store-place-requires : tie.Need-store-place-requires
-store-place-requires c κs = search needs
-
-same-length-3 : tie.Need-same-length-3
-same-length-3 c = search needs
-
-returns-3 : tie.Need-returns-3
-returns-3 c =
     let at-store = c .before .before in
-    let at-place = at-store .before .before in
-    let room = at-place .before in
-    let at-free = room .before in
-    let other = at-free .before .before in
-    hold-held _ _ _ _ _ (other .before .place-of-number .ensures) (other .if1 .left) (at-free .free-place .ensures) (room .if2 .left)
-    (at-place .place-of .ensures) (at-store .store-place .ensures)
+    let at-made = at-store .before .before in
+    let passed = at-made .before in
+    let asked = passed .before in
+    let at-number = asked .before in
+    let at-free = at-number .before in
+    let at-place = at-free .before .before in
+    hold-held _ _ _ _ _ (asked .first-no .ensures) (at-number .number-of .ensures) (at-place .place-of-number .ensures) (at-free .free-place .ensures)
+    (passed .if1 .left) (at-made .place-of .ensures) (at-store .store-place .ensures)
 
 pub hold-spec : {M : Type 1} → statement M
 hold-spec =
     tie.close
     (tie.spec
     place-of-number-requires
+    free-place-requires
+    number-of-requires
+    first-no-requires
     same-length
     returns
-    free-place-requires
-    same-length-2
-    returns-2
     place-of-requires
     store-place-requires
-    same-length-3
-    returns-3)
+    same-length-2
+    returns-2)
