@@ -16,7 +16,7 @@ use Rattle.laws.proofs.Difference.{sub-pos, sub-neg}
 use Rattle.index.specs.declared.answer.Answer.{Answer}
 use Rattle.index.specs.Answer.{indexOf, methodOf}
 use Rattle.index_summary.specs.declared.Summary.{Summary}
-use Rattle.index_summary.specs.Summary.{lesser, greater, one, aloneOf, joinedOf}
+use Rattle.index_summary.specs.Summary.{lesser, greater, one, methodA, methodSettled, methodNear, aloneOf, joinedOf}
 use Rattle.index_summary.specs.Preconditions.{most, Within}
 
 -- ---- 64 bits
@@ -64,9 +64,9 @@ module _ (n : ℕ) (x : Answer) (small : mag (indexOf x) < span32) where
     lowest = small;
     highest = small;
     sum = omega arith;
-    a = omega (arith, at-most-one (methodOf x) 1);
-    settled = omega (arith, at-most-one (methodOf x) 2);
-    near = omega (arith, at-most-one (methodOf x) 3);
+    a = omega (arith, at-most-one (methodOf x) methodA);
+    settled = omega (arith, at-most-one (methodOf x) methodSettled);
+    near = omega (arith, at-most-one (methodOf x) methodNear);
   }
 
   pub joined-within : (t : Summary) → Within n t → Within (suc n) (joinedOf t x)
@@ -75,9 +75,9 @@ module _ (n : ℕ) (x : Answer) (small : mag (indexOf x) < span32) where
     lowest = lesser-mag (t .lowest) (indexOf x) span32 (w .lowest) small;
     highest = greater-mag (t .highest) (indexOf x) span32 (w .highest) small;
     sum = omega (arith, sum-mag (t .sum) (indexOf x), w .sum);
-    a = omega (arith, at-most-one (methodOf x) 1, w .a);
-    settled = omega (arith, at-most-one (methodOf x) 2, w .settled);
-    near = omega (arith, at-most-one (methodOf x) 3, w .near);
+    a = omega (arith, at-most-one (methodOf x) methodA, w .a);
+    settled = omega (arith, at-most-one (methodOf x) methodSettled, w .settled);
+    near = omega (arith, at-most-one (methodOf x) methodNear, w .near);
   }
 
 pub within-more : (n m : ℕ) (t : Summary) → n ≤ m → Within n t → Within m t

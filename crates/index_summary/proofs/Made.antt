@@ -5,10 +5,10 @@ use lib.IntN.{ℤ, _+ℤ_}
 use Rattle.index.specs.declared.answer.Answer.{Answer}
 use Rattle.index.specs.Answer.{indexOf, methodOf}
 use Rattle.index_summary.specs.declared.Summary.{Summary}
-use Rattle.index_summary.specs.Summary.{lesser, greater, one, aloneOf, joinedOf}
+use Rattle.index_summary.specs.Summary.{lesser, greater, one, methodA, methodSettled, methodNear, aloneOf, joinedOf}
 
 module _ (x : Answer) {method a settled near : ℕ} (method-is : method ≡ methodOf x)
-    (a-is : a ≡ one method 1) (settled-is : settled ≡ one method 2) (near-is : near ≡ one method 3) where
+    (a-is : a ≡ one method methodA) (settled-is : settled ≡ one method methodSettled) (near-is : near ≡ one method methodNear) where
   pub alone-made : {index : ℤ} → index ≡ indexOf x
       → _≡_ {A = Summary} (record { lowest = index; highest = index; sum = index; a = a; settled = settled; near = near }) (aloneOf x)
   unfolding aloneOf

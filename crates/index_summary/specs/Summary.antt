@@ -24,15 +24,25 @@ greater a b = cond (ltZ a b) b a
 abbrev pub one : ℕ → ℕ → ℕ
 one method same = cond (eqb method same) 1 0
 
--- the summary of one answer, and a summary with one answer more; the methods are "1 A, 2 B settled, 3 B near"
+-- the methods that are counted: "1 A, 2 B settled, 3 B near"
+abbrev pub methodA : ℕ
+methodA = 1
+
+abbrev pub methodSettled : ℕ
+methodSettled = 2
+
+abbrev pub methodNear : ℕ
+methodNear = 3
+
+-- the summary of one answer, and a summary with one answer more
 unfoldable pub aloneOf : Answer → declared.Summary
 aloneOf answer = record {
   lowest = indexOf answer;
   highest = indexOf answer;
   sum = indexOf answer;
-  a = one (methodOf answer) 1;
-  settled = one (methodOf answer) 2;
-  near = one (methodOf answer) 3;
+  a = one (methodOf answer) methodA;
+  settled = one (methodOf answer) methodSettled;
+  near = one (methodOf answer) methodNear;
 }
 
 unfoldable pub joinedOf : declared.Summary → Answer → declared.Summary
@@ -40,9 +50,9 @@ joinedOf t answer = record {
   lowest = lesser (t .lowest) (indexOf answer);
   highest = greater (t .highest) (indexOf answer);
   sum = t .sum +ℤ indexOf answer;
-  a = t .a + one (methodOf answer) 1;
-  settled = t .settled + one (methodOf answer) 2;
-  near = t .near + one (methodOf answer) 3;
+  a = t .a + one (methodOf answer) methodA;
+  settled = t .settled + one (methodOf answer) methodSettled;
+  near = t .near + one (methodOf answer) methodNear;
 }
 
 -- ---- when a summary is right

@@ -19,7 +19,7 @@ use Rattle.tray_places.specs.Counts.{one, times, numbered, same}
 use Rattle.tray_places.proofs.Held.{times-none, times-one, times-append}
 use Rattle.tray_places.proofs.Found.{held-most, empty-size, empty-holds}
 use Rattle.tray_places.proofs.Same.{only, times-fewer, same-number}
-use Rattle.tray.specs.Tray.{heldAs, sampleWith, putAnswer}
+use Rattle.tray.specs.Tray.{numberHeld, heldAs, sampleWith, putAnswer}
 use Rattle.tray.specs.Calls.{Call, Put, Take, Ask, takenNumber, callRefusal, after, afterAll, inBy, takenIn, takenOut, allTakenIn, allTakenOut}
 use Rattle.tray.specs.EveryListOfCalls.{EveryList, EveryCall}
 use Rattle.tray.proofs.Steps.{pair-first, refused-31, refused-32, put-answered, one-in, refused-33, take-answered, number-out, one-out, call-step}
@@ -108,7 +108,7 @@ full-only l n u y h e =
     (λ q.
     let passed : refusal u y ≡ 0 = omega arith in
     by-order 0 (heldAs l n)
-    (λ p. absurd (omega (arith, number-is 31 32 (sym (refused-31 l h n u y passed p .0) ∙ e))))
+    (λ p. absurd (omega (arith, number-is numberHeld 32 (sym (refused-31 l h n u y passed p .0) ∙ e))))
     (λ r. by-order (length (heldIn l)) places
     (λ some.
     let is = ap numberOf (sym (put-answered l h n u y passed (omega arith) some .0) ∙ e) in

@@ -1,13 +1,14 @@
 -- The questions to a call, and what it answers and leaves by the number that they give.
 use Prim.Native.Nat.{ℕ, _*_, _≤_, _<_}
 use mathlib.Core.Path.{_≡_, sym, ap, _∙_}
-use mathlib.Core.Bool.{false}
+use mathlib.Core.Bool.{Bool, false, cond}
 use mathlib.Core.List.{List}
 use native.Mathlib.Omega.{arith}
 use native.Mathlib.Nat.{le-of-eq}
 use borrow.Author.Tests.{lt-ltb, le-ltb, lt-leb, le-leb, eq-eqb, ne-eqb}
 use lib.Dec.{eqb, leb, ltb}
 use lib.ListN.{length}
+use Rattle.laws.specs.Questions.{ask}
 use Rattle.laws.proofs.Order.{by-order}
 use Rattle.index.specs.declared.answer.Answer.{Answer}
 use Rattle.index.specs.declared.answer.Answer.the-variants as answer
@@ -21,7 +22,7 @@ use Rattle.tray_places.specs.Places.{places, placeSize, traySize, numbersOf, fr
 use Rattle.tray_places.specs.Samples.{placeOf}
 use Rattle.tray_places.proofs.Found.{some-free, none-free, number-held, number-not-held}
 use Rattle.tray.specs.declared.Taken.the-variants as taken
-use Rattle.tray.specs.Tray.{firstNo, heldAs, sampleWith, trayWith, holdRefusal, holdAnswer, trayHolding, putRefusal, putAnswer, trayAfterPut, takeRefusal, takeAnswer, trayAfterTake}
+use Rattle.tray.specs.Tray.{notATray, numberHeld, trayFull, numberNotHeld, firstNo, heldAs, sampleWith, trayWith, holdRefusal, holdAnswer, trayHolding, putRefusal, putAnswer, trayAfterPut, takeRefusal, takeAnswer, trayAfterTake}
 
 some : (k : ℕ) → 0 < k → eqb k 0 ≡ false
 some k p = ne-eqb k 0 (λ (z : k ≡ 0). omega arith)
@@ -32,29 +33,32 @@ unfolding firstNo
 place-free pair at free {k} e z =
     by-order 0 pair (λ p. let is : k ≡ pair = rw (some pair p) at e in absurd (omega arith))
     (λ q. by-order at places
-    (λ p. let is : k ≡ 31 = rw (eq-eqb pair 0 (omega arith), lt-leb places at p) at e in absurd (omega arith))
+    (λ p. let is : k ≡ numberHeld = rw (eq-eqb pair 0 (omega arith), lt-leb places at p) at e in absurd (omega arith))
     (λ r. by-order free places (λ p. p)
     (λ p.
-    let is : k ≡ 32 = rw (eq-eqb pair 0 (omega arith), le-leb places at r, le-ltb free places p) at e in
+    let is : k ≡ trayFull = rw (eq-eqb pair 0 (omega arith), le-leb places at r, le-ltb free places p) at e in
     absurd (omega arith))))
 
 module _ (l : List ℕ) (n : ℕ) where
   -- ---- the questions to a pair of that number
+  abbrev by-31 : Bool → ℕ
+  by-31 new = ask new numberHeld (ask (ltb (length (heldIn l)) places) trayFull 0)
+
   pub no-pair : (k : ℕ) → 0 < k → holdRefusal l n k ≡ k
   unfolding holdRefusal
-  no-pair k p = rw (some k p)
+  no-pair k p = ap (λ (b : Bool). cond b (by-31 (eqb (heldAs l n) 0)) k) (some k p)
 
-  pub no-31 : 0 < heldAs l n → holdRefusal l n 0 ≡ 31
+  pub no-31 : 0 < heldAs l n → holdRefusal l n 0 ≡ numberHeld
   unfolding holdRefusal
-  no-31 h = rw (some (heldAs l n) h)
+  no-31 h = ap by-31 (some (heldAs l n) h)
 
-  pub no-32 : heldAs l n ≡ 0 → places ≤ length (heldIn l) → holdRefusal l n 0 ≡ 32
+  pub no-32 : heldAs l n ≡ 0 → places ≤ length (heldIn l) → holdRefusal l n 0 ≡ trayFull
   unfolding holdRefusal
-  no-32 h k = rw (h, le-ltb (length (heldIn l)) places k)
+  no-32 h k = ap by-31 (eq-eqb (heldAs l n) 0 h) ∙ ap (λ (b : Bool). ask b trayFull 0) (le-ltb (length (heldIn l)) places k)
 
   pub room : heldAs l n ≡ 0 → length (heldIn l) < places → holdRefusal l n 0 ≡ 0
   unfolding holdRefusal
-  room h k = rw (h, lt-ltb (length (heldIn l)) places k)
+  room h k = ap by-31 (eq-eqb (heldAs l n) 0 h) ∙ ap (λ (b : Bool). ask b trayFull 0) (lt-ltb (length (heldIn l)) places k)
 
   -- by places they are the same
   is-new : eqb (heldAs l n) 0 ≡ leb places (placeOfNumber l n)
@@ -89,7 +93,7 @@ module _ (l : List ℕ) (n : ℕ) where
 
   -- ---- putting in
   module _ (u y : ℕ) where
-    put-size : (length l ≡ traySize → ⊥) → putRefusal l n u y ≡ 5
+    put-size : (length l ≡ traySize → ⊥) → putRefusal l n u y ≡ notATray
     unfolding putRefusal
     put-size h = rw (ne-eqb (length l) traySize h)
 
@@ -107,8 +111,8 @@ module _ (l : List ℕ) (n : ℕ) where
     unfolding putAnswer trayAfterPut
     put-passed e = (rw e, rw e)
 
-    pub put-5 : (length l ≡ traySize → ⊥) → (answer.Refused 5 ≡ putAnswer l n u y) × (l ≡ trayAfterPut l n u y)
-    put-5 h = let by = put-by 5 (put-size h) (omega arith) in (sym (by .0), sym (by .1))
+    pub put-5 : (length l ≡ traySize → ⊥) → (answer.Refused notATray ≡ putAnswer l n u y) × (l ≡ trayAfterPut l n u y)
+    put-5 h = let by = put-by notATray (put-size h) (omega arith) in (sym (by .0), sym (by .1))
 
     pub put-held : {a r : Answer} {m : List ℕ} → length l ≡ traySize → a ≡ answerOf u y → RightAnswer u y a → r ≡ holdAnswer l n a
         → m ≡ trayHolding l n u y a → (r ≡ putAnswer l n u y) × (m ≡ trayAfterPut l n u y)
@@ -118,11 +122,11 @@ module _ (l : List ℕ) (n : ℕ) where
         (rw (put-sized h) (rw (e, same) at answered), rw (put-sized h) (rw (e, same) at numbers))
 
   -- ---- taking out
-  take-size : (length l ≡ traySize → ⊥) → takeRefusal l n ≡ 5
+  take-size : (length l ≡ traySize → ⊥) → takeRefusal l n ≡ notATray
   unfolding takeRefusal
   take-size h = rw (ne-eqb (length l) traySize h)
 
-  pub no-33 : length l ≡ traySize → heldAs l n ≡ 0 → takeRefusal l n ≡ 33
+  pub no-33 : length l ≡ traySize → heldAs l n ≡ 0 → takeRefusal l n ≡ numberNotHeld
   unfolding takeRefusal
   no-33 h k = rw (eq-eqb (length l) traySize h, k)
 
@@ -140,11 +144,11 @@ module _ (l : List ℕ) (n : ℕ) where
   unfolding takeAnswer trayAfterTake
   take-passed e = (rw e, rw e)
 
-  pub take-5 : (length l ≡ traySize → ⊥) → (taken.Refused 5 ≡ takeAnswer l n) × (l ≡ trayAfterTake l n)
-  take-5 h = let by = take-by 5 (take-size h) (omega arith) in (sym (by .0), sym (by .1))
+  pub take-5 : (length l ≡ traySize → ⊥) → (taken.Refused notATray ≡ takeAnswer l n) × (l ≡ trayAfterTake l n)
+  take-5 h = let by = take-by notATray (take-size h) (omega arith) in (sym (by .0), sym (by .1))
 
-  pub take-33 : {i : ℕ} → length l ≡ traySize → i ≡ placeOfNumber l n → places ≤ i → (taken.Refused 33 ≡ takeAnswer l n) × (l ≡ trayAfterTake l n)
-  take-33 h e k = let by = take-by 33 (no-33 h (number-not-held l n (rw e at k))) (omega arith) in (sym (by .0), sym (by .1))
+  pub take-33 : {i : ℕ} → length l ≡ traySize → i ≡ placeOfNumber l n → places ≤ i → (taken.Refused numberNotHeld ≡ takeAnswer l n) × (l ≡ trayAfterTake l n)
+  take-33 h e k = let by = take-by numberNotHeld (no-33 h (number-not-held l n (rw e at k))) (omega arith) in (sym (by .0), sym (by .1))
 
   pub take-out : {i : ℕ} {s : Sample} {m : List ℕ} → length l ≡ traySize → i ≡ placeOfNumber l n → i < places → s ≡ sampleAt l i
       → m ≡ stored l (placeSize * i) freed → (taken.Out s ≡ takeAnswer l n) × (m ≡ trayAfterTake l n)

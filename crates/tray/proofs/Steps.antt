@@ -24,7 +24,7 @@ use Rattle.tray_places.proofs.Kept.{length-numbers, length-freed}
 use Rattle.tray_places.proofs.Found.{every-tray, held-most, free-is-free, none-free, found-is-held, found-number, number-not-held, filled, emptied}
 use Rattle.tray_places.proofs.SamplesBack.{method-some}
 use Rattle.tray.specs.declared.Taken.the-variants as taken
-use Rattle.tray.specs.Tray.{heldAs, holdRefusal, putRefusal, sampleWith, trayWith, putAnswer, trayAfterPut, takeAnswer, trayAfterTake}
+use Rattle.tray.specs.Tray.{numberHeld, trayFull, numberNotHeld, heldAs, holdRefusal, putRefusal, sampleWith, trayWith, putAnswer, trayAfterPut, takeAnswer, trayAfterTake}
 use Rattle.tray.specs.Calls.{Call, Put, Take, Ask, after, inBy, outBy, takenIn, takenOut}
 use Rattle.tray.proofs.Questions.{no-pair, no-31, no-32, room, put-sized, put-by, put-passed, no-33, held, take-by, take-passed}
 
@@ -46,11 +46,11 @@ module _ (l : List ℕ) (h : length l ≡ traySize) (n : ℕ) where
       sized : putRefusal l n u y ≡ holdRefusal l n 0
       sized = put-sized l n u y h ∙ ap (holdRefusal l n) passed
 
-      pub refused-31 : 0 < heldAs l n → (putAnswer l n u y ≡ answer.Refused 31) × (trayAfterPut l n u y ≡ l)
-      refused-31 k = put-by l n u y 31 (sized ∙ no-31 l n k) (omega arith)
+      pub refused-31 : 0 < heldAs l n → (putAnswer l n u y ≡ answer.Refused numberHeld) × (trayAfterPut l n u y ≡ l)
+      refused-31 k = put-by l n u y numberHeld (sized ∙ no-31 l n k) (omega arith)
 
-      pub refused-32 : heldAs l n ≡ 0 → length (heldIn l) ≡ places → (putAnswer l n u y ≡ answer.Refused 32) × (trayAfterPut l n u y ≡ l)
-      refused-32 k f = put-by l n u y 32 (sized ∙ no-32 l n k (omega arith)) (omega arith)
+      pub refused-32 : heldAs l n ≡ 0 → length (heldIn l) ≡ places → (putAnswer l n u y ≡ answer.Refused trayFull) × (trayAfterPut l n u y ≡ l)
+      refused-32 k f = put-by l n u y trayFull (sized ∙ no-32 l n k (omega arith)) (omega arith)
 
       abbrev s : Sample
       s = sampleWith n u y (answerOf u y)
@@ -70,8 +70,8 @@ module _ (l : List ℕ) (h : length l ≡ traySize) (n : ℕ) where
   abbrev k : ℕ
   k = placeOfNumber l n
 
-  pub refused-33 : heldAs l n ≡ 0 → (takeAnswer l n ≡ taken.Refused 33) × (trayAfterTake l n ≡ l)
-  refused-33 z = take-by l n 33 (no-33 l n h z) (omega arith)
+  pub refused-33 : heldAs l n ≡ 0 → (takeAnswer l n ≡ taken.Refused numberNotHeld) × (trayAfterTake l n ≡ l)
+  refused-33 z = take-by l n numberNotHeld (no-33 l n h z) (omega arith)
 
   pub take-answered : 0 < heldAs l n → (takeAnswer l n ≡ taken.Out (sampleAt l k)) × (trayAfterTake l n ≡ stored l (placeSize * k) freed)
   take-answered p = take-passed l n (held l n h p)
@@ -135,7 +135,7 @@ put-step l n u y h =
     by-order 0 (refusal u y) (λ p. refused (refusal u y) (pair-first l h n u y p))
     (λ z.
     let passed : refusal u y ≡ 0 = omega arith in
-    by-order 0 (heldAs l n) (λ p. refused 31 (refused-31 l h n u y passed p))
+    by-order 0 (heldAs l n) (λ p. refused numberHeld (refused-31 l h n u y passed p))
     (λ q.
     let new : heldAs l n ≡ 0 = omega arith in
     by-order (length (heldIn l)) places
@@ -143,7 +143,7 @@ put-step l n u y h =
     let both = put-answered l h n u y passed new few in
     gained l (Put n u y) (trayWith l (sampleWith n u y (answerOf u y))) (sampleWith n u y (answerOf u y)) (length-stored l _ _ ∙ h) (both .1)
     (ap (inBy n u y) (both .0) ∙ sample-in n u y (answerOf u y) (right u y) passed) refl (one-in l h n u y passed few) new)
-    (λ many. refused 32 (refused-32 l h n u y passed new (omega (arith, held-most l))))))
+    (λ many. refused trayFull (refused-32 l h n u y passed new (omega (arith, held-most l))))))
 
 take-step : (l : List ℕ) (n : ℕ) → length l ≡ traySize → Step l (Take n)
 take-step l n h =

@@ -11,7 +11,7 @@ use Rattle.tray_places.specs.declared.samples.Sample.{Sample}
 use Rattle.tray_places.specs.Places.{isHeld, sampleAt, heldIn}
 use Rattle.tray.specs.declared.state.State.{State}
 use Rattle.tray.specs.declared.state.State.the-variants.{Refused, Empty, Holding}
-use Rattle.tray.specs.Tray.{isTray}
+use Rattle.tray.specs.Tray.{notATray, isTray}
 
 -- ---- the walk
 
@@ -28,7 +28,7 @@ stateAfter state (s ∷ samples) = stateAfter (withAnswer state (s .answer)) sam
 
 -- the state of a tray: the size of the lent memory is asked for first (no: 5), then the samples held are walked
 unfoldable pub stateOf : List ℕ → State
-stateOf tray = cond (isTray tray) (stateAfter Empty (heldIn tray)) (Refused 5)
+stateOf tray = cond (isTray tray) (stateAfter Empty (heldIn tray)) (Refused notATray)
 
 -- what the code that walks the places adds for place i
 abbrev pub withPlace : List ℕ → ℕ → State → State

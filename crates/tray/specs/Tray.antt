@@ -21,6 +21,19 @@ use Rattle.tray.specs.declared.Taken.the-variants.{Refused, Out}
 
 -- ---- the questions
 
+-- their numbers: the lent memory is no tray; "31 number already held, 32 tray full"; "33 number not held"
+abbrev pub notATray : ℕ
+notATray = 5
+
+abbrev pub numberHeld : ℕ
+numberHeld = 31
+
+abbrev pub trayFull : ℕ
+trayFull = 32
+
+abbrev pub numberNotHeld : ℕ
+numberNotHeld = 33
+
 -- is the lent memory as large as a tray?
 abbrev pub isTray : List ℕ → Bool
 isTray tray = eqb (length tray) traySize
@@ -39,21 +52,21 @@ holdRefusal tray number pair =
     -- "both after the pair's own questions"
     orElse pair
     -- "31 number already held"
-    (ask (eqb (heldAs tray number) 0) 31
+    (ask (eqb (heldAs tray number) 0) numberHeld
     -- "32 tray full"
-    (ask (ltb (length (heldIn tray)) places) 32 0))
+    (ask (ltb (length (heldIn tray)) places) trayFull 0))
 
 -- the questions to a put
 unfoldable pub putRefusal : List ℕ → ℕ → ℕ → ℕ → ℕ
-putRefusal tray number u y = ask (isTray tray) 5 (holdRefusal tray number (refusal u y))
+putRefusal tray number u y = ask (isTray tray) notATray (holdRefusal tray number (refusal u y))
 
 -- the questions to a take: "33 number not held"
 unfoldable pub takeRefusal : List ℕ → ℕ → ℕ
-takeRefusal tray number = ask (isTray tray) 5 (ask (ltb 0 (heldAs tray number)) 33 0)
+takeRefusal tray number = ask (isTray tray) notATray (ask (ltb 0 (heldAs tray number)) numberNotHeld 0)
 
 -- the same questions by places, as the code asks them: the place where the number is held, and the first free one
 unfoldable pub firstNo : ℕ → ℕ → ℕ → ℕ
-firstNo pair at free = orElse pair (ask (leb places at) 31 (ask (ltb free places) 32 0))
+firstNo pair at free = orElse pair (ask (leb places at) numberHeld (ask (ltb free places) trayFull 0))
 
 -- ---- putting in
 

@@ -20,7 +20,7 @@ use Rattle.tray.specs.declared.state.State.{State}
 use Rattle.tray.specs.Tray.{putAnswer, trayAfterPut, takeAnswer, trayAfterTake}
 use Rattle.tray.specs.State.{stateOf}
 use Rattle.tray.specs.Calls.{takenNumber, stateNumber}
-use Rattle.tray_calls.specs.TrayCalls.{notItsSize, recordWith, putNumber, trayPut, recordPut, pairSize, pairWith, recordFrom, takeNumber, trayTaken, pairTaken, recordTaken, rowSize, rowOf, summaryRow, rowWith, summaryNumber, summaryAfter}
+use Rattle.tray_calls.specs.TrayCalls.{notItsSize, recordWith, putNumber, trayPut, recordPut, pairSize, pairWith, recordFrom, takeNumber, trayTaken, pairTaken, recordTaken, rowSize, rowOf, heldOf, summaryRow, rowWith, summaryNumber, summaryAfter}
 
 -- ---- stores that fill a whole memory
 
@@ -45,13 +45,13 @@ row-stored (p ∷ q ∷ r ∷ s ∷ t ∷ u ∷ v ∷ w ∷ l) a b c d e f g h =
 -- a summary's numbers as the code hands them on
 pub summary-stored : (t : Summary) {after : List ℤ} → SFits w64 (t .lowest) → SFits w64 (t .highest) → SFits w64 (t .sum) → t .a < span32 → t .settled < span32
     → t .near < span32
-    → after ≡ rowOf (toZ w64 (t .a + t .settled + t .near)) (toZ w64 (ofZ w64 (t .lowest))) (toZ w64 (ofZ w64 (t .highest))) (toZ w64 (ofZ w64 (t .sum)))
+    → after ≡ rowOf (toZ w64 (heldOf t)) (toZ w64 (ofZ w64 (t .lowest))) (toZ w64 (ofZ w64 (t .highest))) (toZ w64 (ofZ w64 (t .sum)))
     (toZ w64 (t .a)) (toZ w64 (t .settled)) (toZ w64 (t .near))
     → after ≡ summaryRow t
 summary-stored t low high sum a settled near e =
     e
     ∙ rw (
-      toZ-pos w64 {n = t .a + t .settled + t .near} (omega arith),
+      toZ-pos w64 {n = heldOf t} (omega arith),
       back (t .lowest) low,
       back (t .highest) high,
       back (t .sum) sum,

@@ -88,8 +88,12 @@ just7 row = eqb (length row) rowSize
 abbrev pub rowOf : ℤ → ℤ → ℤ → ℤ → ℤ → ℤ → ℤ → List ℤ
 rowOf held lowest highest sum a settled near = held ∷ lowest ∷ highest ∷ sum ∷ a ∷ settled ∷ near ∷ []
 
+-- a summary's row: it is of as many as are counted
+abbrev pub heldOf : Summary → ℕ
+heldOf t = t .a + t .settled + t .near
+
 abbrev pub summaryRow : Summary → List ℤ
-summaryRow t = rowOf (pos (t .a + t .settled + t .near)) (t .lowest) (t .highest) (t .sum) (pos (t .a)) (pos (t .settled)) (pos (t .near))
+summaryRow t = rowOf (pos (heldOf t)) (t .lowest) (t .highest) (t .sum) (pos (t .a)) (pos (t .settled)) (pos (t .near))
 
 -- "an empty tray says so": that none is held, and all zeros
 abbrev pub emptyRow : List ℤ

@@ -1,6 +1,6 @@
 -- Field by field.
 use Prim.Native.Nat.{_<_}
-use mathlib.Core.Path.{_≡_, _∙_}
+use mathlib.Core.Path.{_≡_, ap₂, _∙_}
 use native.Mathlib.Omega.{arith}
 use borrow.Author.Needs.{needs, sfits-of}
 use lib.IntN.{_+ℤ_}
@@ -74,11 +74,11 @@ returns c =
     let high : toZ w64 (ofZ w64 (t .highest)) ≡ t .highest = back _ (small-fits _ (omega (arith, within .highest))) in
     let total : toZ w64 (ofZ w64 (t .sum)) ≡ t .sum = back _ (small-fits _ (within .sum)) in
     let lowest : toZ w64 (ofZ w64 (at-lowest .lesser .result)) ≡ lesser (t .lowest) (indexOf x) =
-    back _ (sfits-of (at-lowest .lesser .ok)) ∙ rw (low, index) at (at-lowest .lesser .ensures) in
+    back _ (sfits-of (at-lowest .lesser .ok)) ∙ at-lowest .lesser .ensures ∙ ap₂ lesser low index in
     let highest : toZ w64 (ofZ w64 (at-highest .greater .result)) ≡ greater (t .highest) (indexOf x) =
-    back _ (sfits-of (at-highest .greater .ok)) ∙ rw (high, index) at (at-highest .greater .ensures) in
+    back _ (sfits-of (at-highest .greater .ok)) ∙ at-highest .greater .ensures ∙ ap₂ greater high index in
     let sum : toZ w64 (ofZ w64 (at-sum .added .result)) ≡ t .sum +ℤ indexOf x =
-    back _ (sfits-of (at-sum .added .ok)) ∙ rw (total, index) at (at-sum .added .ensures) in
+    back _ (sfits-of (at-sum .added .ok)) ∙ at-sum .added .ensures ∙ ap₂ _+ℤ_ total index in
     joined-made x (at-method .method-of .ensures) (at-a .one-if .ensures .0) (at-settled .one-if2 .ensures .0) (c .before .one-if3 .ensures .0) t
     lowest highest sum
 
