@@ -16,7 +16,7 @@ use Rattle.laws.proofs.Difference.{sub-pos, sub-neg}
 use Rattle.index.specs.declared.answer.Answer.{Answer}
 use Rattle.index.specs.Answer.{indexOf, methodOf}
 use Rattle.index_summary.specs.declared.Summary.{Summary}
-use Rattle.index_summary.specs.Summary.{lesser, greater, one, methodA, methodSettled, methodNear, aloneOf, joinedOf}
+use Rattle.index_summary.specs.Summary.{lesser, greater, one, methodA, methodSettled, methodNear, joinedOf, nothing}
 use Rattle.index_summary.specs.Preconditions.{most, Within}
 
 -- ---- 64 bits
@@ -24,7 +24,7 @@ use Rattle.index_summary.specs.Preconditions.{most, Within}
 pub back : (z : ℤ) → SFits w64 z → toZ w64 (ofZ w64 z) ≡ z
 back z f = toZ-ofZ {w = w64} f
 
-pub small-fits : (z : ℤ) → mag z < span32 * most → SFits w64 z
+pub small-fits : (z : ℤ) → mag z ≤ span32 * most → SFits w64 z
 small-fits z h = sfits-of (omega arith)
 
 -- what a test of two numbers says
@@ -43,7 +43,7 @@ sum-mag (pos a) (negsuc b) = omega (arith, difference-mag a (suc b))
 sum-mag (negsuc a) (pos b) = omega (arith, difference-mag b (suc a))
 sum-mag (negsuc a) (negsuc b) = omega arith
 
-pub sum-fits : (a b : ℤ) → mag a < span32 * most → mag b < span32 → SFits w64 (a +ℤ b)
+pub sum-fits : (a b : ℤ) → mag a ≤ span32 * most → mag b < span32 → SFits w64 (a +ℤ b)
 sum-fits a b h k = sfits-of (omega (arith, sum-mag a b))
 
 -- ---- one answer more
@@ -51,34 +51,26 @@ sum-fits a b h k = sfits-of (omega (arith, sum-mag a b))
 at-most-one : (method same : ℕ) → one method same ≤ 1
 at-most-one method same = by-test (eqb method same) (λ e. rw e (omega arith)) (λ e. rw e (omega arith))
 
-lesser-mag : (a b : ℤ) (m : ℕ) → mag a < m → mag b < m → mag (lesser a b) < m
+lesser-mag : (a b : ℤ) (m : ℕ) → mag a ≤ m → mag b ≤ m → mag (lesser a b) ≤ m
 lesser-mag a b m p q = by-test (ltZ a b) (λ e. rw e p) (λ e. rw e q)
 
-greater-mag : (a b : ℤ) (m : ℕ) → mag a < m → mag b < m → mag (greater a b) < m
+greater-mag : (a b : ℤ) (m : ℕ) → mag a ≤ m → mag b ≤ m → mag (greater a b) ≤ m
 greater-mag a b m p q = by-test (ltZ a b) (λ e. rw e q) (λ e. rw e p)
 
 module _ (n : ℕ) (x : Answer) (small : mag (indexOf x) < span32) where
-  pub alone-within : Within (suc n) (aloneOf x)
-  unfolding aloneOf
-  alone-within = record {
-    lowest = small;
-    highest = small;
-    sum = omega arith;
-    a = omega (arith, at-most-one (methodOf x) methodA);
-    settled = omega (arith, at-most-one (methodOf x) methodSettled);
-    near = omega (arith, at-most-one (methodOf x) methodNear);
-  }
-
   pub joined-within : (t : Summary) → Within n t → Within (suc n) (joinedOf t x)
   unfolding joinedOf
   joined-within t w = record {
-    lowest = lesser-mag (t .lowest) (indexOf x) span32 (w .lowest) small;
-    highest = greater-mag (t .highest) (indexOf x) span32 (w .highest) small;
+    lowest = lesser-mag (t .lowest) (indexOf x) span32 (w .lowest) (omega arith);
+    highest = greater-mag (t .highest) (indexOf x) span32 (w .highest) (omega arith);
     sum = omega (arith, sum-mag (t .sum) (indexOf x), w .sum);
     a = omega (arith, at-most-one (methodOf x) methodA, w .a);
     settled = omega (arith, at-most-one (methodOf x) methodSettled, w .settled);
     near = omega (arith, at-most-one (methodOf x) methodNear, w .near);
   }
+
+pub nothing-within : Within 0 nothing
+nothing-within = record { lowest = omega arith; highest = omega arith; sum = omega arith; a = omega arith; settled = omega arith; near = omega arith }
 
 pub within-more : (n m : ℕ) (t : Summary) → n ≤ m → Within n t → Within m t
 within-more n m t l w = record {

@@ -5,15 +5,10 @@ use lib.IntN.{ℤ, _+ℤ_}
 use Rattle.index.specs.declared.answer.Answer.{Answer}
 use Rattle.index.specs.Answer.{indexOf, methodOf}
 use Rattle.index_summary.specs.declared.Summary.{Summary}
-use Rattle.index_summary.specs.Summary.{lesser, greater, one, methodA, methodSettled, methodNear, aloneOf, joinedOf}
+use Rattle.index_summary.specs.Summary.{lesser, greater, one, methodA, methodSettled, methodNear, joinedOf}
 
 module _ (x : Answer) {method a settled near : ℕ} (method-is : method ≡ methodOf x)
     (a-is : a ≡ one method methodA) (settled-is : settled ≡ one method methodSettled) (near-is : near ≡ one method methodNear) where
-  pub alone-made : {index : ℤ} → index ≡ indexOf x
-      → _≡_ {A = Summary} (record { lowest = index; highest = index; sum = index; a = a; settled = settled; near = near }) (aloneOf x)
-  unfolding aloneOf
-  alone-made i = rw (i, a-is, settled-is, near-is, method-is)
-
   pub joined-made : (t : Summary) {lowest highest sum : ℤ} → lowest ≡ lesser (t .lowest) (indexOf x) → highest ≡ greater (t .highest) (indexOf x)
       → sum ≡ t .sum +ℤ indexOf x
       → _≡_ {A = Summary} (record { lowest = lowest; highest = highest; sum = sum; a = t .a + a; settled = t .settled + settled; near = t .near + near })

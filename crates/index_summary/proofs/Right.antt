@@ -1,20 +1,22 @@
 -- The summary of one answer is right, and so is a right one with one answer more.
-use Prim.Native.Nat.{ℕ, _+_}
+use Prim.Native.Nat.{ℕ, _+_, _<_}
 use mathlib.Core.Path.{_≡_, refl, sym, ap, _∙_}
-use mathlib.Core.Bool.{true, false}
+use mathlib.Core.Bool.{Bool, true, false, cond}
 use mathlib.Core.List.{List, [], _∷_, _++_}
 use mathlib.Core.Logic.{_⊎_, inl, inr, ⊎-elim}
 use native.Mathlib.Omega.{arith}
-use borrow.Author.Tests.{ltb-true, ltb-false}
+use native.Mathlib.Nat.{zero-add}
+use borrow.Author.Tests.{ltb-true, ltb-false, lt-ltb, le-ltb}
 use lib.IntN.{ℤ, pos, negsuc, _+ℤ_, +ℤ-assoc, +ℤ-idr, +ℤ-idl}
-use lib.Signed.{ltZ, _≤ℤ_, ≤ℤ-refl}
+use lib.Signed.{mag, ltZ, _≤ℤ_, ≤ℤ-refl}
+use Rattle.laws.specs.Bits.{span32}
 use Rattle.laws.proofs.Contradiction.{impossible}
 use Rattle.laws.proofs.Order.{by-test}
 use Rattle.laws.proofs.Difference.{pos-le, neg-le, order-joins}
 use Rattle.index.specs.declared.answer.Answer.{Answer}
 use Rattle.index.specs.Answer.{indexOf, methodOf}
 use Rattle.index_summary.specs.declared.Summary.{Summary}
-use Rattle.index_summary.specs.Summary.{lesser, greater, one, aloneOf, joinedOf, All, Some, sumOf, countOf, SummaryOf}
+use Rattle.index_summary.specs.Summary.{lesser, greater, one, methodA, methodSettled, methodNear, aloneOf, joinedOf, aboveAll, belowAll, nothing, All, Some, sumOf, countOf, SummaryOf}
 
 -- ---- the order of indices
 
@@ -89,6 +91,27 @@ alone-right x = record {
   settled-is = omega arith;
   near-is = omega arith;
 }
+
+-- one answer added to nothing
+lesser-nothing : (i : ℤ) → mag i < span32 → lesser aboveAll i ≡ i
+lesser-nothing (pos n) h = ap (λ (b : Bool). cond b aboveAll (pos n)) (le-ltb _ n (omega arith))
+lesser-nothing (negsuc n) h = refl
+
+greater-nothing : (i : ℤ) → mag i < span32 → greater belowAll i ≡ i
+greater-nothing (pos n) h = refl
+greater-nothing (negsuc n) h = ap (λ (b : Bool). cond b (negsuc n) belowAll) (lt-ltb n _ (omega arith))
+
+pub joined-nothing : (x : Answer) → mag (indexOf x) < span32 → joinedOf nothing x ≡ aloneOf x
+unfolding joinedOf aloneOf
+joined-nothing x h =
+    rw (
+      lesser-nothing (indexOf x) h,
+      greater-nothing (indexOf x) h,
+      +ℤ-idl (indexOf x),
+      zero-add (one (methodOf x) methodA),
+      zero-add (one (methodOf x) methodSettled),
+      zero-add (one (methodOf x) methodNear),
+    )
 
 pub joined-right : (xs : List Answer) (t : Summary) (y : Answer) → SummaryOf xs t → SummaryOf (xs ++ (y ∷ [])) (joinedOf t y)
 unfolding joinedOf

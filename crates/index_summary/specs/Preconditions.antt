@@ -1,5 +1,5 @@
 -- What the inner function that adds an answer asks of its callers.
-use Prim.Native.Nat.{ℕ, _*_, _≤_, _<_}
+use Prim.Native.Nat.{ℕ, _*_, _≤_}
 use lib.Signed.{mag}
 use Rattle.laws.specs.Bits.{span32}
 use Rattle.index_summary.specs.declared.Summary.{Summary}
@@ -10,9 +10,9 @@ most = 65536
 
 -- what holds of the summary of n answers
 pub record Within (n : ℕ) (t : Summary) : Type 0 where
-  pub lowest : mag (t .lowest) < span32
-  pub highest : mag (t .highest) < span32
-  pub sum : mag (t .sum) < span32 * n
+  pub lowest : mag (t .lowest) ≤ span32
+  pub highest : mag (t .highest) ≤ span32
+  pub sum : mag (t .sum) ≤ span32 * n
   pub a : t .a ≤ n
   pub settled : t .settled ≤ n
   pub near : t .near ≤ n

@@ -6,7 +6,7 @@ use mathlib.Core.Logic.{_⊎_}
 use mathlib.Core.Bool.{cond}
 use mathlib.Core.List.{List, [], _∷_}
 use lib.Dec.{eqb}
-use lib.IntN.{ℤ, pos, _+ℤ_}
+use lib.IntN.{ℤ, pos, negsuc, _+ℤ_}
 use lib.Signed.{ltZ, _≤ℤ_}
 use Rattle.index.specs.declared.answer.Answer.{Answer}
 use Rattle.index.specs.Answer.{indexOf, methodOf}
@@ -54,6 +54,17 @@ joinedOf t answer = record {
   settled = t .settled + one (methodOf answer) methodSettled;
   near = t .near + one (methodOf answer) methodNear;
 }
+
+-- what the code begins with: every index is below the one and above the other, for 32 bits hold it, with sign or without. One answer added to it makes
+-- the summary of that answer
+abbrev pub aboveAll : ℤ
+aboveAll = pos 4294967296
+
+abbrev pub belowAll : ℤ
+belowAll = negsuc 4294967296
+
+abbrev pub nothing : declared.Summary
+nothing = record { lowest = aboveAll; highest = belowAll; sum = pos 0; a = 0; settled = 0; near = 0 }
 
 -- ---- when a summary is right
 

@@ -1,12 +1,12 @@
 // What do the answers of several pairs come to? The lowest and the highest index, the sum of indices, and how many answers there are by procedure A, by B
-// settled and by B near. One answer makes a summary, and one more is added to it.
+// settled and by B near. The answers are added one by one, the first to a summary of nothing.
 ghost use mathlib.Core.Path.{_≡_};
 ghost use Prim.Native.Nat.{_*_, _<_, _≤_};
 ghost use lib.IntN.{_+ℤ_};
 ghost use lib.Signed.{mag};
 ghost use Rattle.laws.specs.Bits.{span32};
 ghost use Rattle.index.specs.Answer.{indexOf};
-ghost use Rattle.index_summary.specs.Summary.{lesser, greater, one, aloneOf, joinedOf};
+ghost use Rattle.index_summary.specs.Summary.{lesser, greater, one, nothing, joinedOf};
 ghost use Rattle.index_summary.specs.Preconditions.{most, Within};
 use index::Answer;
 use index::answer::METHOD_A;
@@ -15,7 +15,12 @@ use index::answer::METHOD_B_SETTLED;
 use index::answer::index_of;
 use index::answer::method_of;
 
-// The summary of one answer or more. 64 bits hold every index and the sum of very many.
+// Every index is below the one and above the other: 32 bits hold it, with sign or without.
+const ABOVE_ALL: i64 = 4_294_967_296;
+
+const BELOW_ALL: i64 = -4_294_967_297;
+
+// A summary of answers. 64 bits hold every index and the sum of very many.
 pub struct Summary {
     pub lowest: i64,
     pub highest: i64,
@@ -45,7 +50,7 @@ fn greater(a: i64, b: i64) -> i64
 
 // The sum of indices with one more.
 fn added(sum: i64, index: i64) -> i64
-    requires { ⌜ (mag sum < span32 * most) × (mag index < span32) ⌝ }
+    requires { ⌜ (mag sum ≤ span32 * most) × (mag index < span32) ⌝ }
     ensures { λ r. ⌜ r ≡ sum +ℤ index ⌝ }
 {
     sum + index
@@ -61,22 +66,17 @@ fn one_if(method: u8, same: u8) -> u32
     0
 }
 
-// The summary of one answer.
-pub fn alone(answer: Answer) -> Summary
-    ensures { λ r. ⌜ r ≡ aloneOf answer ⌝ }
+// The summary of no answers, to add the first to.
+pub fn nothing() -> Summary
+    ensures { λ r. ⌜ r ≡ nothing ⌝ }
 {
-    let index = index_of(answer);
-    let method = method_of(answer);
-    let a = one_if(method, METHOD_A);
-    let settled = one_if(method, METHOD_B_SETTLED);
-    let near = one_if(method, METHOD_B_NEAR);
     Summary {
-        lowest: index,
-        highest: index,
-        sum: index,
-        a,
-        settled,
-        near,
+        lowest: ABOVE_ALL,
+        highest: BELOW_ALL,
+        sum: 0,
+        a: 0,
+        settled: 0,
+        near: 0,
     }
 }
 

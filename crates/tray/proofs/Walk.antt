@@ -1,11 +1,11 @@
 -- The walk over the places of a tray: it is the walk over the samples held, its numbers fit, and what it gives is right.
 use Prim.Native.Nat.{ℕ, zero, suc, _+_, _≤_, _<_}
 use mathlib.Core.Path.{_≡_, refl, sym, ap, _∙_, subst}
-use mathlib.Core.Bool.{Bool, true, false, cond}
+use mathlib.Core.Bool.{Bool, true, false}
 use mathlib.Core.List.{List, [], _∷_, _++_, map, map-append, append-assoc, append-nil}
 use native.Mathlib.Numerals.{add-one}
 use native.Mathlib.Omega.{arith}
-use borrow.Author.Tests.{eqb-true, eqb-false, lt-ltb, le-ltb}
+use borrow.Author.Tests.{eqb-true, eqb-false, eq-eqb, ne-eqb, lt-ltb, le-ltb}
 use lib.Dec.{eqb}
 use lib.ListN.{length, length-append, getD}
 use lib.Signed.{mag}
@@ -13,10 +13,11 @@ use Rattle.laws.specs.Bits.{half32, span32}
 use Rattle.laws.proofs.Order.{by-test, by-order}
 use Rattle.index.specs.declared.answer.Answer.{Answer}
 use Rattle.index.specs.Answer.{methodOf, indexOf}
+use Rattle.index_summary.specs.declared.Summary.{Summary}
 use Rattle.index_summary.specs.Summary.{one, joinedOf, countOf, SummaryOf}
-use Rattle.index_summary.proofs.Fits.{alone-within, joined-within}
-use Rattle.index_summary.proofs.Fits as fits
-use Rattle.index_summary.proofs.Right.{count-last, alone-right, joined-right}
+use Rattle.index_summary.specs.Preconditions.{Within}
+use Rattle.index_summary.proofs.Fits.{joined-within, nothing-within, within-more}
+use Rattle.index_summary.proofs.Right.{count-last, alone-right, joined-nothing, joined-right}
 use Rattle.answer_record.specs.Bytes.{signedOf}
 use Rattle.tray_places.specs.declared.samples.Sample.{Sample}
 use Rattle.tray_places.specs.Samples.{answerFrom}
@@ -25,8 +26,7 @@ use Rattle.tray_places.proofs.Held.{among-zero, next-free, next-held}
 use Rattle.tray.specs.declared.state.State.{State}
 use Rattle.tray.specs.declared.state.State.the-variants.{Refused, Empty, Holding}
 use Rattle.tray.specs.Tray.{isTray}
-use Rattle.tray.specs.State.{withAnswer, stateAfter, stateOf, RightState}
-use Rattle.tray.specs.Preconditions.{Within}
+use Rattle.tray.specs.State.{withAnswer, stateAfter, stateOf, RightState, summaryIn, withPlace, stateWith}
 
 -- ---- one place more
 
@@ -55,32 +55,6 @@ module _ (h : ℕ → Bool) (s : ℕ → Sample) where
 
   walk-held : (n : ℕ) → h n ≡ true → walked (suc n) ≡ withAnswer (walked n) (s n .answer)
   walk-held n e = ap (stateAfter Empty) (next-held h s n e) ∙ after-append Empty (among h s n) (s n ∷ []) ∙ after-one (walked n) (s n)
-
-  pub walk-next : (n : ℕ) → cond (h n) (withAnswer (walked n) (s n .answer)) (walked n) ≡ walked (n + 1)
-  walk-next n = rw (add-one n) (by-test (h n) (λ e. rw e (sym (walk-held n e))) (λ e. rw e (sym (walk-free n e))))
-
-  -- ---- its numbers fit
-
-  module _ (small : (k : ℕ) → mag (indexOf (s k .answer)) < span32) where
-    with-within : (n : ℕ) (st : State) (x : Answer) → mag (indexOf x) < span32 → Within n st → Within (suc n) (withAnswer st x)
-    with-within n (Refused k) x f w = tt
-    with-within n Empty x f w = alone-within n x f
-    with-within n (Holding t) x f w = joined-within n x f t w
-
-    within-more : (n m : ℕ) (st : State) → n ≤ m → Within n st → Within m st
-    within-more n m (Refused k) l w = tt
-    within-more n m Empty l w = tt
-    within-more n m (Holding t) l w = fits.within-more n m t l w
-
-    walk-within : (n : ℕ) → Within n (walked n)
-    walk-within zero = rw (sym walk-zero) tt
-    walk-within (suc n) =
-        let before = walk-within n in
-        by-test (h n) (λ e. rw (walk-held n e) (with-within n (walked n) (s n .answer) (small n) before))
-        (λ e. rw (walk-free n e) (within-more n (suc n) (walked n) (omega arith) before))
-
-    pub walk-fits : (n m : ℕ) → n ≤ m → Within m (walked n)
-    walk-fits n m l = within-more n m (walked n) l (walk-within n)
 
 -- ---- the index of a sample that is held, whatever the numbers of its place are
 
@@ -154,14 +128,76 @@ held-counted : (l : List ℕ) → Counted (heldIn l)
 unfolding heldIn
 held-counted l = places-counted l places
 
--- of a tray
 right-of : (l : List ℕ) (st : State) → length l ≡ traySize → StateOf (heldIn l) st → RightState l st
 right-of l (Refused k) h r = absurd r
 right-of l Empty h r = (h, r)
 right-of l (Holding t) h r = (h, r, omega (arith, r .a-is, r .settled-is, r .near-is, held-counted l))
 
+-- ---- the summary that the code holds
+
+places-right : (l : List ℕ) (n : ℕ) → StateOf (among (isHeld l) (sampleAt l) n) (walked (isHeld l) (sampleAt l) n)
+places-right l n = after-right [] (among (isHeld l) (sampleAt l) n) Empty refl
+
+-- one answer more, in a state that is not refused
+joined-in : (xs : List Sample) (st : State) (x : Answer) → StateOf xs st → mag (indexOf x) < span32 → joinedOf (summaryIn st) x ≡ summaryIn (withAnswer st x)
+joined-in xs (Refused k) x r h = absurd r
+joined-in xs Empty x r h = joined-nothing x h
+joined-in xs (Holding t) x r h = refl
+
+module _ (l : List ℕ) (small : (k : ℕ) → mag (indexOf (sampleAt l k .answer)) < span32) where
+  abbrev passed : ℕ → Summary
+  passed n = summaryIn (walked (isHeld l) (sampleAt l) n)
+
+  passed-held : (n : ℕ) → isHeld l n ≡ true → passed (suc n) ≡ joinedOf (passed n) (sampleAt l n .answer)
+  passed-held n e =
+      ap summaryIn (walk-held (isHeld l) (sampleAt l) n e)
+      ∙ sym (joined-in (among (isHeld l) (sampleAt l) n) (walked (isHeld l) (sampleAt l) n) (sampleAt l n .answer) (places-right l n) (small n))
+
+  passed-free : (n : ℕ) → isHeld l n ≡ false → passed (suc n) ≡ passed n
+  passed-free n e = ap summaryIn (walk-free (isHeld l) (sampleAt l) n e)
+
+  pub walk-next : (n : ℕ) → withPlace l n (passed n) ≡ passed (n + 1)
+  walk-next n =
+      rw (add-one n) (by-test (isHeld l n) (λ e. rw e (sym (passed-held n e))) (λ e. rw e (sym (passed-free n e))))
+
+  -- its numbers fit
+  walk-within : (n : ℕ) → Within n (passed n)
+  walk-within zero = subst (Within 0) (ap summaryIn (walk-zero (isHeld l) (sampleAt l))) nothing-within
+  walk-within (suc n) =
+      by-test (isHeld l n)
+      (λ e. subst (Within (suc n)) (sym (passed-held n e)) (joined-within n (sampleAt l n .answer) (small n) (passed n) (walk-within n)))
+      (λ e. subst (Within (suc n)) (sym (passed-free n e)) (within-more n (suc n) (passed n) (omega arith) (walk-within n)))
+
+  pub walk-fits : (n m : ℕ) → n ≤ m → Within m (passed n)
+  walk-fits n m h = within-more n m (passed n) h (walk-within n)
+
+-- the state is told from it: where something is held, something is counted
+some-counted : (xs : List Sample) (t : Summary) → SummaryOf (answers xs) t → 0 < length xs
+some-counted [] t r = absurd (r .lowest-held)
+some-counted (x ∷ xs) t r = omega arith
+
+told : (xs : List Sample) (st : State) → StateOf xs st → Counted xs → stateWith (summaryIn st) ≡ st
+unfolding stateWith
+told xs (Refused k) r c = absurd r
+told xs Empty r c = refl
+told xs (Holding t) r c =
+    let some : 0 < t .a + t .settled + t .near = omega (arith, r .a-is, r .settled-is, r .near-is, some-counted xs t r) in
+    by-order 0 (t .a) (λ p. rw (ne-eqb (t .a) 0 (λ (z : t .a ≡ 0). omega arith)))
+    (λ p. by-order 0 (t .settled)
+    (λ q. rw (eq-eqb (t .a) 0 (omega arith), ne-eqb (t .settled) 0 (λ (z : t .settled ≡ 0). omega arith)))
+    (λ q.
+    rw (eq-eqb (t .a) 0 (omega arith), eq-eqb (t .settled) 0 (omega arith), ne-eqb (t .near) 0 (λ (z : t .near ≡ 0). omega arith))))
+
+-- ---- of a tray
+
+held-right : (l : List ℕ) → StateOf (heldIn l) (stateAfter Empty (heldIn l))
+held-right l = after-right [] (heldIn l) Empty refl
+
+pub walk-told : (l : List ℕ) {t : Summary} {st : State} → t ≡ summaryIn (stateAfter Empty (heldIn l)) → st ≡ stateWith t → st ≡ stateAfter Empty (heldIn l)
+walk-told l e f = f ∙ ap stateWith e ∙ told (heldIn l) (stateAfter Empty (heldIn l)) (held-right l) (held-counted l)
+
 pub walk-right : (l : List ℕ) {st : State} → length l ≡ traySize → st ≡ stateAfter Empty (heldIn l) → RightState l st
-walk-right l {st} h e = right-of l st h (subst (StateOf (heldIn l)) (sym e) (after-right [] (heldIn l) Empty refl))
+walk-right l {st} h e = right-of l st h (subst (StateOf (heldIn l)) (sym e) (held-right l))
 
 pub state-right : (l : List ℕ) → RightState l (stateOf l)
 unfolding stateOf

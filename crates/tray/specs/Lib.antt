@@ -3,4 +3,3 @@ pub mod Tray
 pub mod State
 pub mod Calls
 pub mod EveryListOfCalls
-pub mod Preconditions

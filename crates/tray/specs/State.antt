@@ -2,11 +2,13 @@
 -- so."
 use Prim.Native.Nat.{ℕ, _+_}
 use mathlib.Core.Path.{_≡_}
-use mathlib.Core.Bool.{cond}
+use mathlib.Core.Bool.{cond, _&&_}
 use mathlib.Core.List.{List, [], _∷_, map}
+use lib.Dec.{eqb}
 use lib.ListN.{length}
 use Rattle.index.specs.declared.answer.Answer.{Answer}
-use Rattle.index_summary.specs.Summary.{aloneOf, joinedOf, SummaryOf}
+use Rattle.index_summary.specs.declared.Summary.{Summary}
+use Rattle.index_summary.specs.Summary.{aloneOf, joinedOf, nothing, SummaryOf}
 use Rattle.tray_places.specs.declared.samples.Sample.{Sample}
 use Rattle.tray_places.specs.Places.{isHeld, sampleAt, heldIn}
 use Rattle.tray.specs.declared.state.State.{State}
@@ -30,10 +32,6 @@ stateAfter state (s ∷ samples) = stateAfter (withAnswer state (s .answer)) sam
 unfoldable pub stateOf : List ℕ → State
 stateOf tray = cond (isTray tray) (stateAfter Empty (heldIn tray)) (Refused notATray)
 
--- what the code that walks the places adds for place i
-abbrev pub withPlace : List ℕ → ℕ → State → State
-withPlace tray i state = cond (isHeld tray i) (withAnswer state (sampleAt tray i .answer)) state
-
 -- ---- when a state is right, whatever the lent memory holds
 
 abbrev pub answersIn : List ℕ → List Answer
@@ -45,3 +43,18 @@ abbrev pub RightState : List ℕ → State → Type 0
 RightState tray (Refused number) = (number ≡ 5) × (length tray ≡ 512 → ⊥)
 RightState tray Empty = (length tray ≡ 512) × (heldIn tray ≡ [])
 RightState tray (Holding t) = (length tray ≡ 512) × SummaryOf (answersIn tray) t × (t .a + t .settled + t .near ≡ length (heldIn tray))
+
+-- ---- what the code that walks the places holds: a summary, of nothing at first
+
+abbrev pub summaryIn : State → Summary
+summaryIn (Refused number) = nothing
+summaryIn Empty = nothing
+summaryIn (Holding t) = t
+
+-- the summary with place i more
+abbrev pub withPlace : List ℕ → ℕ → Summary → Summary
+withPlace tray i t = cond (isHeld tray i) (joinedOf t (sampleAt tray i .answer)) t
+
+-- the state with a summary: empty where nothing is counted
+unfoldable pub stateWith : Summary → State
+stateWith t = cond (eqb (t .a) 0 && (eqb (t .settled) 0 && eqb (t .near) 0)) Empty (Holding t)

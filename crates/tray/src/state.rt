@@ -1,18 +1,14 @@
 // The state of a tray: what the samples held come to, found by a walk over the places.
 ghost use mathlib.Core.Path.{_≡_};
-ghost use Prim.Native.Nat.{_+_, _*_, _<_, _≤_};
+ghost use Prim.Native.Nat.{_+_, _*_, _≤_};
 ghost use lib.ListN.{length};
-ghost use lib.Signed.{mag};
-ghost use Rattle.laws.specs.Bits.{span32};
-ghost use Rattle.index.specs.Answer.{indexOf};
 ghost use Rattle.tray_places.specs.Places.{places, placeSize, traySize, heldIn};
-ghost use Rattle.tray.specs.State.{withAnswer, withPlace, stateAfter, stateOf, RightState};
-ghost use Rattle.tray.specs.Preconditions.{Within};
+ghost use Rattle.tray.specs.State.{stateAfter, stateOf, RightState, withPlace, summaryIn, stateWith};
+ghost use Rattle.index_summary.specs.Preconditions.{Within};
 use crate::NOT_A_TRAY;
-use index::Answer;
 use index_summary::Summary;
-use index_summary::alone;
 use index_summary::joined;
+use index_summary::nothing;
 use tray_places::PLACES;
 use tray_places::TRAY_SIZE;
 use tray_places::is_free;
@@ -26,43 +22,47 @@ pub enum State {
     Holding(Summary),
 }
 
-// The state with one answer more.
-fn with_answer(state: State, answer: Answer) -> State
-    requires { ⌜ Within places state × (mag (indexOf answer) < span32) ⌝ }
-    ensures { λ r. ⌜ r ≡ withAnswer state answer ⌝ }
-{
-    match state {
-        State::Refused(number) => State::Refused(number),
-        State::Empty => State::Holding(alone(answer)),
-        State::Holding(t) => State::Holding(joined(t, answer)),
-    }
-}
-
-// The state with place i more.
-fn with_place(tray: &[u32], i: usize, state: State) -> State
-    requires { ⌜ (placeSize * i + placeSize ≤ length (now tray)) × Within places state ⌝ }
-    ensures { λ r. ⌜ r ≡ withPlace (now (tray .entry)) i state ⌝ }
+// The summary with place i more.
+fn with_place(tray: &[u32], i: usize, t: Summary) -> Summary
+    requires { ⌜ (placeSize * i + placeSize ≤ length (now tray)) × Within places t ⌝ }
+    ensures { λ r. ⌜ r ≡ withPlace (now (tray .entry)) i t ⌝ }
 {
     if is_free(tray, i) {
-        return state;
+        return t;
     }
     let sample = sample_of(place_at(tray, i));
     let answer = sample.answer;
-    with_answer(state, answer)
+    joined(t, answer)
 }
 
-// The state of the samples held, place by place.
-fn walk(tray: &[u32]) -> State
+// The summary of the samples held, place by place.
+fn walk(tray: &[u32]) -> Summary
     requires { ⌜ length (now tray) ≡ traySize ⌝ }
-    ensures { λ r. ⌜ r ≡ stateAfter State.Empty (heldIn (now (tray .entry))) ⌝ }
+    ensures { λ r. ⌜ r ≡ summaryIn (stateAfter State.Empty (heldIn (now (tray .entry)))) ⌝ }
 {
-    let mut state = State::Empty;
+    let mut t = nothing();
     let mut i: usize = 0;
     while i < PLACES {
-        state = with_place(tray, i, state);
+        t = with_place(tray, i, t);
         i += 1;
     }
-    state
+    t
+}
+
+// The state with that summary: empty where nothing is counted.
+fn state_with(t: Summary) -> State
+    ensures { λ r. ⌜ r ≡ stateWith t ⌝ }
+{
+    if t.a != 0 {
+        return State::Holding(t);
+    }
+    if t.settled != 0 {
+        return State::Holding(t);
+    }
+    if t.near != 0 {
+        return State::Holding(t);
+    }
+    State::Empty
 }
 
 // The state of a tray.
@@ -73,5 +73,5 @@ pub fn summary(tray: &[u32]) -> State
     if tray.len() != TRAY_SIZE {
         return State::Refused(NOT_A_TRAY);
     }
-    walk(tray)
+    state_with(walk(tray))
 }
