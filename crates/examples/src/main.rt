@@ -1,6 +1,8 @@
 // All pairs and sheets of document 01's 'Pairs and sheets to try', and constants of change request #101 on both sides of each limit and at values worked
-// by hand, through the public operations: each line names an example and what the document says of it, and ends in "ok" where the operation answers
-// just that, in "WRONG" where it does not.
+// by hand, and a tray of change request #102 from empty to full, through the public operations: each line names an example and what the document says of
+// it, and ends in "ok" where the operation answers just that, in "WRONG" where it does not.
+mod trays;
+
 ghost use Prim.Native.Nat.{_<_};
 ghost use Rattle.sheet.specs.Sheet.{headerSize};
 use gravity_constant::ConstantAnswer;
@@ -14,7 +16,7 @@ use sheet::layout::HEADER_SIZE;
 use sheet::layout::PAIRS_AT;
 use sheet::layout::RESULTS_AT;
 
-fn told(example: &[u8], good: bool) {
+pub fn told(example: &[u8], good: bool) {
     io::write_all(STDOUT_FILENO, example);
     if good {
         io::write_all(STDOUT_FILENO, b": ok\n");
@@ -257,4 +259,5 @@ fn main() {
     constants_at_40();
     constants_at_100();
     refused_constants();
+    trays::trays();
 }
