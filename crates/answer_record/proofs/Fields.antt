@@ -19,23 +19,23 @@ use Rattle.answer_record.proofs.Signed.{signed-back, twos-complement-fi
 
 -- the fields of a record that stands alone
 module _ (number method index lower upper : ℕ) where
-  laid-refusal : getD (laidOut number method index lower upper) 0 0 ≡ number
+  pub laid-refusal : getD (laidOut number method index lower upper) 0 0 ≡ number
   unfolding laidOut headOf
   laid-refusal = refl
 
-  laid-method : getD (laidOut number method index lower upper) methodOffset 0 ≡ method
+  pub laid-method : getD (laidOut number method index lower upper) methodOffset 0 ≡ method
   unfolding laidOut headOf
   laid-method = refl
 
-  laid-index : index < span32 → numberAt (laidOut number method index lower upper) indexOffset ≡ index
+  pub laid-index : index < span32 → numberAt (laidOut number method index lower upper) indexOffset ≡ index
   unfolding laidOut headOf bytesOf numberAt
   laid-index h = joined-again index h
 
-  laid-lower : lower < span32 → numberAt (laidOut number method index lower upper) lowerOffset ≡ lower
+  pub laid-lower : lower < span32 → numberAt (laidOut number method index lower upper) lowerOffset ≡ lower
   unfolding laidOut headOf bytesOf numberAt
   laid-lower h = joined-again lower h
 
-  laid-upper : upper < span32 → numberAt (laidOut number method index lower upper) upperOffset ≡ upper
+  pub laid-upper : upper < span32 → numberAt (laidOut number method index lower upper) upperOffset ≡ upper
   unfolding laidOut headOf bytesOf numberAt
   laid-upper h = joined-again upper h
 

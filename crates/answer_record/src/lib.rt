@@ -18,8 +18,8 @@ use index::answer::METHOD_REFUSED;
 use index::answer::method_of;
 use layout::*;
 
-// Stores the fields of a record, which begins at `at`.
-fn store_fields(
+// Stores the fields of a record, which begins at `at`. An inner function, for callers that know its bytes to be there.
+pub fn store_fields(
     to: &mut [u8],
     at: usize,
     number: u8,

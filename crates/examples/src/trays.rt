@@ -1,5 +1,4 @@
 // Change request #102 from an empty tray on: what fills it, what refuses, and what it says of itself.
-ghost use Prim.Native.Nat.{_≤_};
 use crate::told;
 use index::Answer;
 use tray::State;

@@ -22,10 +22,13 @@ use Rattle.tray_places.specs.Places.{places, placeSize, traySize, numbersOf, fr
 use Rattle.tray_places.specs.Samples.{placeOf}
 use Rattle.tray_places.proofs.Found.{some-free, none-free, number-held, number-not-held}
 use Rattle.tray.specs.declared.Taken.the-variants as taken
-use Rattle.tray.specs.Tray.{notATray, numberHeld, trayFull, numberNotHeld, firstNo, heldAs, sampleWith, trayWith, holdRefusal, holdAnswer, trayHolding, putRefusal, putAnswer, trayAfterPut, takeRefusal, takeAnswer, trayAfterTake}
+use Rattle.tray.specs.Tray.{notATray, numberHeld, trayFull, numberNotHeld, firstNo, heldAs, sampleWith, trayWith, holdRefusal, trayHolding, putRefusal, putAnswer, trayAfterPut, takeRefusal, takeAnswer, trayAfterTake}
 
 some : (k : ℕ) → 0 < k → eqb k 0 ≡ false
 some k p = ne-eqb k 0 (λ (z : k ≡ 0). omega arith)
+
+above-zero : (k : ℕ) → (k ≡ 0 → ⊥) → 0 < k
+above-zero k h = by-order 0 k (λ p. p) (λ z. absurd (h (omega arith)))
 
 -- where every question is answered yes, a place is free
 pub place-free : (pair at free : ℕ) {k : ℕ} → k ≡ firstNo pair at free → k ≡ 0 → free < places
@@ -47,6 +50,9 @@ module _ (l : List ℕ) (n : ℕ) where
   pub no-pair : (k : ℕ) → 0 < k → holdRefusal l n k ≡ k
   unfolding holdRefusal
   no-pair k p = ap (λ (b : Bool). cond b (by-31 (eqb (heldAs l n) 0)) k) (some k p)
+
+  pub pair-none : (k : ℕ) → holdRefusal l n k ≡ 0 → k ≡ 0
+  pair-none k e = by-order 0 k (λ p. absurd (omega (arith, no-pair k p))) (λ z. omega arith)
 
   pub no-31 : 0 < heldAs l n → holdRefusal l n 0 ≡ numberHeld
   unfolding holdRefusal
@@ -77,19 +83,17 @@ module _ (l : List ℕ) (n : ℕ) where
   unfolding firstNo holdRefusal
   by-places k = rw (is-new, is-room)
 
-  module _ (u y : ℕ) (a : Answer) {k pair at free : ℕ} (k-is : k ≡ firstNo pair at free) (pair-is : pair ≡ numberOf a)
-      (at-is : at ≡ placeOfNumber l n) (free-is : free ≡ freePlace l) where
-    asked : k ≡ holdRefusal l n (numberOf a)
-    asked = rw (pair-is, at-is, free-is) at k-is ∙ by-places (numberOf a)
+  module _ (pair : ℕ) {k at free : ℕ} (k-is : k ≡ firstNo pair at free) (at-is : at ≡ placeOfNumber l n) (free-is : free ≡ freePlace l) (place : Place) where
+    asked : k ≡ holdRefusal l n pair
+    asked = rw (at-is, free-is) at k-is ∙ by-places pair
 
-    pub hold-refused : (k ≡ 0 → ⊥) → (answer.Refused k ≡ holdAnswer l n a) × (l ≡ trayHolding l n u y a)
-    unfolding holdAnswer trayHolding
-    hold-refused h = (rw (← asked, ne-eqb k 0 h), rw (← asked, ne-eqb k 0 h))
+    pub hold-refused : (k ≡ 0 → ⊥) → (k ≡ holdRefusal l n pair) × (l ≡ trayHolding l n pair place)
+    unfolding trayHolding
+    hold-refused h = (asked, rw (← asked, ne-eqb k 0 h))
 
-    pub hold-held : {p : Place} {m : List ℕ} → k ≡ 0 → p ≡ placeOf (sampleWith n u y a) → m ≡ stored l (placeSize * free) (numbersOf p)
-        → (a ≡ holdAnswer l n a) × (m ≡ trayHolding l n u y a)
-    unfolding holdAnswer trayHolding
-    hold-held z q s = let none : holdRefusal l n (numberOf a) ≡ 0 = sym asked ∙ z in (rw none, rw none (rw (free-is, q) at s))
+    pub hold-held : {m : List ℕ} → k ≡ 0 → m ≡ stored l (placeSize * free) (numbersOf place) → (0 ≡ holdRefusal l n pair) × (m ≡ trayHolding l n pair place)
+    unfolding trayHolding
+    hold-held z s = let none : holdRefusal l n pair ≡ 0 = sym asked ∙ z in (sym none, rw none (rw free-is at s))
 
   -- ---- putting in
   module _ (u y : ℕ) where
@@ -114,12 +118,24 @@ module _ (l : List ℕ) (n : ℕ) where
     pub put-5 : (length l ≡ traySize → ⊥) → (answer.Refused notATray ≡ putAnswer l n u y) × (l ≡ trayAfterPut l n u y)
     put-5 h = let by = put-by notATray (put-size h) (omega arith) in (sym (by .0), sym (by .1))
 
-    pub put-held : {a r : Answer} {m : List ℕ} → length l ≡ traySize → a ≡ answerOf u y → RightAnswer u y a → r ≡ holdAnswer l n a
-        → m ≡ trayHolding l n u y a → (r ≡ putAnswer l n u y) × (m ≡ trayAfterPut l n u y)
-    unfolding putAnswer trayAfterPut holdAnswer trayHolding
-    put-held {a} {r} {m} h e right answered numbers =
-        let same : numberOf (answerOf u y) ≡ refusal u y = sym (ap numberOf e) ∙ right .number in
-        (rw (put-sized h) (rw (e, same) at answered), rw (put-sized h) (rw (e, same) at numbers))
+    -- from what `hold` answers and leaves
+    module _ {a : Answer} {k pair : ℕ} {p : Place} {m : List ℕ} (h : length l ≡ traySize) (a-is : a ≡ answerOf u y) (is-right : RightAnswer u y a)
+        (pair-is : pair ≡ numberOf a) (p-is : p ≡ placeOf (sampleWith n u y a)) (k-is : k ≡ holdRefusal l n pair) (m-is : m ≡ trayHolding l n pair p) where
+      number : k ≡ putRefusal l n u y
+      number = k-is ∙ ap (holdRefusal l n) (pair-is ∙ is-right .number) ∙ sym (put-sized h)
+
+      pub put-refused : (k ≡ 0 → ⊥) → (answer.Refused k ≡ putAnswer l n u y) × (m ≡ trayAfterPut l n u y)
+      unfolding trayHolding
+      put-refused z =
+          let by = put-by k (sym number) (above-zero k z) in
+          (sym (by .0), rw (← k-is, ne-eqb k 0 z) at m-is ∙ sym (by .1))
+
+      pub put-held : k ≡ 0 → (a ≡ putAnswer l n u y) × (m ≡ trayAfterPut l n u y)
+      unfolding trayHolding
+      put-held z =
+          let by = put-passed (sym number ∙ z) in
+          let none : holdRefusal l n pair ≡ 0 = sym k-is ∙ z in
+          (a-is ∙ sym (by .0), rw (none, p-is, a-is) at m-is ∙ sym (by .1))
 
   -- ---- taking out
   take-size : (length l ≡ traySize → ⊥) → takeRefusal l n ≡ notATray

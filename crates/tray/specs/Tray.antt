@@ -9,10 +9,10 @@ use Rattle.laws.specs.Questions.{ask}
 use Rattle.index.specs.declared.answer.Answer.{Answer}
 use Rattle.index.specs.declared.answer.Answer.the-variants as answer
 use Rattle.index.specs.Questions.{refusal}
-use Rattle.index.specs.Answer.{numberOf}
 use Rattle.index.specs.ChosenAnswer.{answerOf}
 use Rattle.answer_record.specs.Bytes.{stored}
 use Rattle.tray_places.specs.declared.samples.Sample.{Sample}
+use Rattle.tray_places.specs.declared.samples.Place.{Place}
 use Rattle.tray_places.specs.Samples.{placeOf}
 use Rattle.tray_places.specs.Places.{places, placeSize, traySize, numbersOf, freed, sampleAt, placeOfNumber, freePlace, heldIn}
 use Rattle.tray_places.specs.Counts.{times, numbered}
@@ -73,16 +73,16 @@ firstNo pair at free = orElse pair (ask (leb places at) numberHeld (ask (ltb fre
 abbrev pub sampleWith : ℕ → ℕ → ℕ → Answer → Sample
 sampleWith number u y a = record { number = number; u = u; y = y; answer = a }
 
--- the tray with a sample more, in its first free place
+-- the tray with the numbers of a place more, in its first free place, and with a sample more
+abbrev pub trayStoring : List ℕ → Place → List ℕ
+trayStoring tray place = stored tray (placeSize * freePlace tray) (numbersOf place)
+
 abbrev pub trayWith : List ℕ → Sample → List ℕ
-trayWith tray s = stored tray (placeSize * freePlace tray) (numbersOf (placeOf s))
+trayWith tray s = trayStoring tray (placeOf s)
 
--- of a pair with its answer: the answer, and the tray that holds it; or refused, and the tray as it was
-unfoldable pub holdAnswer : List ℕ → ℕ → Answer → Answer
-holdAnswer tray number a = cond (eqb (holdRefusal tray number (numberOf a)) 0) a (answer.Refused (holdRefusal tray number (numberOf a)))
-
-unfoldable pub trayHolding : List ℕ → ℕ → ℕ → ℕ → Answer → List ℕ
-trayHolding tray number u y a = cond (eqb (holdRefusal tray number (numberOf a)) 0) (trayWith tray (sampleWith number u y a)) tray
+-- what is left where a place is stored unless a question refuses it
+unfoldable pub trayHolding : List ℕ → ℕ → ℕ → Place → List ℕ
+trayHolding tray number pair place = cond (eqb (holdRefusal tray number pair) 0) (trayStoring tray place) tray
 
 -- "Putting in takes a number, u and y and gives the pair's answer"
 unfoldable pub putAnswer : List ℕ → ℕ → ℕ → ℕ → Answer

@@ -6,7 +6,7 @@ mod state;
 ghost use mathlib.Core.Path.{_≡_};
 ghost use lib.ListN.{length};
 ghost use Rattle.tray_places.specs.Places.{traySize};
-ghost use Rattle.tray.specs.Tray.{firstNo, holdAnswer, trayHolding, putAnswer, trayAfterPut, takeAnswer, trayAfterTake};
+ghost use Rattle.tray.specs.Tray.{firstNo, holdRefusal, trayHolding, putAnswer, trayAfterPut, takeAnswer, trayAfterTake};
 use index::Answer;
 use index::answer::ANSWERED;
 use index::answer::number_of;
@@ -14,6 +14,7 @@ pub use index_summary::Summary;
 pub use state::State;
 pub use state::summary;
 use tray_places::PLACES;
+pub use tray_places::Place;
 pub use tray_places::Sample;
 pub use tray_places::TRAY_SIZE;
 use tray_places::free;
@@ -56,26 +57,21 @@ fn first_no(pair: u8, at: usize, free: usize) -> u8
     ANSWERED
 }
 
-// Takes a pair in with its answer, unless a question refuses it.
-fn hold(tray: &mut [u32], number: u32, u: u32, y: u32, answer: Answer) -> Answer
+// Stores a place under its number, unless a question refuses it; `pair` is the number of the pair's own questions. Answers the number of the one that
+// refuses, 0 for none. An inner function, for callers that know the memory to be as large as a tray.
+pub fn hold(tray: &mut [u32], number: u32, pair: u8, place: Place) -> u8
     requires { ⌜ length (now tray) ≡ traySize ⌝ }
-    ensures answer { λ r. ⌜ r ≡ holdAnswer (now (tray .entry)) number answer ⌝ }
-    ensures numbers { λ _. ⌜ now (tray .exit) ≡ trayHolding (now (tray .entry)) number u y answer ⌝ }
+    ensures number { λ r. ⌜ r ≡ holdRefusal (now (tray .entry)) number pair ⌝ }
+    ensures numbers { λ _. ⌜ now (tray .exit) ≡ trayHolding (now (tray .entry)) number pair place ⌝ }
 {
     let at = place_of_number(tray, number);
     let i = free_place(tray);
-    let refused = first_no(number_of(answer), at, i);
+    let refused = first_no(pair, at, i);
     if refused != ANSWERED {
-        return Answer::Refused(refused);
+        return refused;
     }
-    let place = place_of(Sample {
-        number,
-        u,
-        y,
-        answer,
-    });
     store_place(tray, i, place);
-    answer
+    ANSWERED
 }
 
 // Puts a sample in: the pair's answer, or refused by the question of that number.
@@ -87,7 +83,17 @@ pub fn put(tray: &mut [u32], number: u8, u: u32, y: u32) -> Answer
         return Answer::Refused(NOT_A_TRAY);
     }
     let answer = index::answer_pair(u, y);
-    hold(tray, number as u32, u, y, answer)
+    let place = place_of(Sample {
+        number: number as u32,
+        u,
+        y,
+        answer,
+    });
+    let refused = hold(tray, number as u32, number_of(answer), place);
+    if refused != ANSWERED {
+        return Answer::Refused(refused);
+    }
+    answer
 }
 
 // Takes a sample out: the sample, or refused by the question of that number.

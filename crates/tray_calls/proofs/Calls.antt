@@ -5,22 +5,34 @@ use mathlib.Core.List.{List, [], _∷_}
 use native.Mathlib.Omega.{arith}
 use borrow.Author.Tests.{eq-eqb, ne-eqb}
 use lib.IntN.{ℤ}
-use lib.ListN.{length, set}
+use lib.ListN.{length, getD, set}
 use mir.Facts.{toZ-pos}
-use mir.Syntax.{w64}
+use mir.Syntax.{w32, w64}
 use mir.Val.{toZ, ofZ, SFits}
 use Rattle.laws.specs.Bits.{span32}
 use Rattle.index.specs.declared.answer.Answer.{Answer}
-use Rattle.index.specs.Answer.{numberOf}
-use Rattle.answer_record.specs.Record.{resultSize, recordOf}
+use Rattle.index.specs.declared.answer.Answer.the-variants as answer
+use Rattle.index.specs.Answer.{numberOf, methodOf, indexOf, lowerOf, upperOf}
+use Rattle.index.specs.ChosenAnswer.{answerOf}
+use Rattle.index.proofs.Fits.{fits}
+use Rattle.index.proofs.Right.{right}
+use Rattle.answer_record.specs.Bytes.{numberAt, twosComplement, stored}
+use Rattle.answer_record.specs.Record.{resultSize, methodOffset, indexOffset, lowerOffset, upperOffset, laidOut, recordOf}
+use Rattle.answer_record.proofs.Fields.{laid-refusal, laid-method, laid-index, laid-lower, laid-upper}
+use Rattle.answer_record.proofs.Records.{whole}
+use Rattle.answer_record.proofs.Signed.{twos-complement-fits}
 use Rattle.index_summary.specs.declared.Summary.{Summary}
 use Rattle.index_summary.proofs.Fits.{back}
+use Rattle.tray_places.specs.declared.samples.Place.{Place}
+use Rattle.tray_places.specs.Samples.{placeOf}
+use Rattle.tray_places.specs.Places.{traySize}
 use Rattle.tray.specs.declared.Taken.{Taken}
 use Rattle.tray.specs.declared.state.State.{State}
-use Rattle.tray.specs.Tray.{putAnswer, trayAfterPut, takeAnswer, trayAfterTake}
+use Rattle.tray.specs.Tray.{holdRefusal, sampleWith, trayHolding, putAnswer, trayAfterPut, takeAnswer, trayAfterTake}
+use Rattle.tray.proofs.Questions.{pair-none, put-5, put-refused, put-held}
 use Rattle.tray.specs.State.{stateOf}
 use Rattle.tray.specs.Calls.{takenNumber, stateNumber}
-use Rattle.tray_calls.specs.TrayCalls.{notItsSize, recordWith, putNumber, trayPut, recordPut, pairSize, pairWith, recordFrom, takeNumber, trayTaken, pairTaken, recordTaken, rowSize, rowOf, heldOf, summaryRow, rowWith, summaryNumber, summaryAfter}
+use Rattle.tray_calls.specs.TrayCalls.{notItsSize, recordWith, placeFrom, putNumber, trayPut, recordPut, pairSize, pairWith, recordFrom, takeNumber, trayTaken, pairTaken, recordTaken, rowSize, rowOf, heldOf, summaryRow, rowWith, summaryNumber, summaryAfter}
 
 -- ---- stores that fill a whole memory
 
@@ -77,12 +89,53 @@ module _ (tray lent : List ℕ) (n u y : ℕ) where
   put-done a h e f m g =
       (simp (eq-eqb _ _ h) (m ∙ ap numberOf e), (simp (eq-eqb _ _ h) f, simp (eq-eqb _ _ h) (g ∙ ap (recordWith lent) e)))
 
--- a refused answer leaves the record, any other fills it
-pub record-left : (lent : List ℕ) (a : Answer) {number : ℕ} → number ≡ numberOf a → (number ≡ 0 → ⊥) → lent ≡ recordWith lent a
-record-left lent a e h = simp (ne-eqb _ _ (λ (z : numberOf a ≡ 0). h (e ∙ z)))
+-- the fields of the place of an answered pair are those of its record
+laid-again : (n u y : ℕ) (a : Answer) (p : Place) {method : ℕ} → numberOf a ≡ 0 → method ≡ methodOf a → p ≡ placeOf (sampleWith n u y a)
+    → laidOut 0 method (p .index) (p .lower) (p .upper) ≡ recordOf a
+unfolding placeOf
+laid-again n u y a p z m e = rw (m, e, z)
 
-pub record-filled : (lent : List ℕ) (a : Answer) {number : ℕ} {after : List ℕ} → number ≡ numberOf a → number ≡ 0 → after ≡ recordOf a → after ≡ recordWith lent a
-record-filled lent a e z h = simp (eq-eqb (numberOf a) 0 (sym e ∙ z)) h
+-- of a pair whose answer stands in a record
+module _ (tray lent : List ℕ) (n u y : ℕ) {filled : List ℕ} (filled-is : filled ≡ recordOf (answerOf u y)) where
+  small : SFits w32 (indexOf (answerOf u y))
+  small = record { sfits = fits u y .index }
+
+  number-there : getD filled 0 0 ≡ numberOf (answerOf u y)
+  number-there = rw filled-is (laid-refusal _ _ _ _ _)
+
+  method-there : getD filled methodOffset 0 ≡ methodOf (answerOf u y)
+  method-there = rw filled-is (laid-method _ _ _ _ _)
+
+  place-there : {method : ℕ} {p : Place} → method ≡ getD filled methodOffset 0 → p ≡ placeFrom filled method n u y → p ≡ placeOf (sampleWith n u y (answerOf u y))
+  unfolding placeFrom placeOf
+  place-there {method} {p} m e =
+      let i : numberAt filled indexOffset ≡ twosComplement (indexOf (answerOf u y)) =
+      rw filled-is (laid-index _ _ _ _ _ (twos-complement-fits (indexOf (answerOf u y)) small)) in
+      let l : numberAt filled lowerOffset ≡ lowerOf (answerOf u y) = rw filled-is (laid-lower _ _ _ _ _ (fits u y .lower)) in
+      let h : numberAt filled upperOffset ≡ upperOf (answerOf u y) = rw filled-is (laid-upper _ _ _ _ _ (fits u y .upper)) in
+      e ∙ rw (m, method-there, i, l, h)
+
+  pub put-no-tray : length lent ≡ resultSize → (length tray ≡ traySize → ⊥) → PutLeaves tray lent n u y notItsSize tray lent
+  put-no-tray h t =
+      let by = put-5 tray n u y t in
+      put-done tray lent n u y (answer.Refused 5) h (by .0) (by .1) refl refl
+
+  module _ {k pair method : ℕ} {p : Place} {m : List ℕ} (h : length lent ≡ resultSize) (t : length tray ≡ traySize) (pair-is : pair ≡ getD filled 0 0)
+      (method-is : method ≡ getD filled methodOffset 0) (p-is : p ≡ placeFrom filled method n u y) (k-is : k ≡ holdRefusal tray n pair)
+      (m-is : m ≡ trayHolding tray n pair p) where
+    pub put-not-held : (k ≡ 0 → ⊥) → PutLeaves tray lent n u y k m lent
+    put-not-held z =
+        let by = put-refused tray n u y t refl (right u y) (pair-is ∙ number-there) (place-there method-is p-is) k-is m-is z in
+        put-done tray lent n u y (answer.Refused k) h (by .0) (by .1) refl (sym (rw (ne-eqb k 0 z)))
+
+    pub put-in : {after : List ℕ} → k ≡ 0 → after ≡ stored lent 0 (laidOut 0 method (p .index) (p .lower) (p .upper)) → PutLeaves tray lent n u y 0 m after
+    put-in {after} z e =
+        let by = put-held tray n u y t refl (right u y) (pair-is ∙ number-there) (place-there method-is p-is) k-is m-is z in
+        let none : numberOf (answerOf u y) ≡ 0 = sym (pair-is ∙ number-there) ∙ pair-none tray n pair (sym k-is ∙ z) in
+        let laid : laidOut 0 method (p .index) (p .lower) (p .upper) ≡ recordOf (answerOf u y) =
+        laid-again n u y (answerOf u y) p none (method-is ∙ method-there) (place-there method-is p-is) in
+        let is : after ≡ recordOf (answerOf u y) = whole lent after (answerOf u y) h (e ∙ ap (stored lent 0) laid) in
+        put-done tray lent n u y (answerOf u y) h (by .0) (by .1) (sym none) (is ∙ sym (rw (eq-eqb (numberOf (answerOf u y)) 0 none)))
 
 -- ---- taking out
 

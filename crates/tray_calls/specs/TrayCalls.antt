@@ -9,8 +9,10 @@ use lib.ListN.{length}
 use Rattle.laws.specs.Questions.{ask}
 use Rattle.index.specs.declared.answer.Answer.{Answer}
 use Rattle.index.specs.Answer.{numberOf}
-use Rattle.answer_record.specs.Record.{resultSize, recordOf}
+use Rattle.answer_record.specs.Bytes.{numberAt}
+use Rattle.answer_record.specs.Record.{resultSize, indexOffset, lowerOffset, upperOffset, recordOf}
 use Rattle.index_summary.specs.declared.Summary.{Summary}
+use Rattle.tray_places.specs.declared.samples.Place.{Place}
 use Rattle.tray.specs.declared.Taken.{Taken}
 use Rattle.tray.specs.declared.Taken.the-variants as taken
 use Rattle.tray.specs.declared.state.State.{State}
@@ -41,6 +43,18 @@ trayPut tray lent number u y = cond (just16 lent) (trayAfterPut tray number u y)
 
 unfoldable pub recordPut : List ℕ → List ℕ → ℕ → ℕ → ℕ → List ℕ
 recordPut tray lent number u y = cond (just16 lent) (recordWith lent (putAnswer tray number u y)) lent
+
+-- what the code stores: the place of a sample whose answer stands in a record, field by field
+unfoldable pub placeFrom : List ℕ → ℕ → ℕ → ℕ → ℕ → Place
+placeFrom filled method number u y = record {
+  method = method;
+  number = number;
+  u = u;
+  y = y;
+  index = numberAt filled indexOffset;
+  lower = numberAt filled lowerOffset;
+  upper = numberAt filled upperOffset;
+}
 
 -- ---- taking out: a tray, a pair and a record are lent
 

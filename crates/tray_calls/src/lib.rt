@@ -2,13 +2,22 @@
 // A crate of its own below the C calls, so that its must-fail edits do not prove the pair and the sheet again.
 ghost use mathlib.Core.Path.{_≡_};
 ghost use lib.ListN.{length};
-ghost use Rattle.tray_calls.specs.TrayCalls.{pairSize, pairOf, rowSize, rowOf, summaryRow, putNumber, trayPut, recordPut, takeNumber, trayTaken, pairTaken, recordTaken, summaryNumber, summaryAfter};
+ghost use Rattle.index.specs.ChosenAnswer.{answerOf};
+ghost use Rattle.answer_record.specs.Record.{recordOf};
+ghost use Rattle.tray_calls.specs.TrayCalls.{placeFrom, pairSize, pairOf, rowSize, rowOf, summaryRow, putNumber, trayPut, recordPut, takeNumber, trayTaken, pairTaken, recordTaken, summaryNumber, summaryAfter};
+use answer_record::layout::INDEX_AT;
+use answer_record::layout::LOWER_AT;
+use answer_record::layout::METHOD_AT;
 use answer_record::layout::RESULT_SIZE;
+use answer_record::layout::UPPER_AT;
+use answer_record::number_at;
+use answer_record::store_fields;
 use answer_record::write_result;
 use index::answer::ANSWERED;
-use index::answer::number_of;
+use tray::Place;
 use tray::State;
 use tray::Summary;
+use tray::TRAY_SIZE;
 use tray::Taken;
 
 // What is answered where a lent memory has not its size, and where no question refuses.
@@ -40,8 +49,34 @@ const SETTLED_AT: usize = 5;
 
 const NEAR_AT: usize = 6;
 
-// Puts a sample in, with the pair's answer as one record.
-pub fn put_sample(tray: &mut [u32], number: u8, u: u32, y: u32, record: &mut [u8]) -> u32
+// The place of a sample whose answer stands in a record, with that method.
+fn place_from(filled: &[u8; RESULT_SIZE], method: u8, number: u32, u: u32, y: u32) -> Place
+    ensures { λ r. ⌜ r ≡ placeFrom (now (filled .entry)) method number u y ⌝ }
+{
+    let index = number_at(filled, INDEX_AT);
+    let lower = number_at(filled, LOWER_AT);
+    let upper = number_at(filled, UPPER_AT);
+    Place {
+        method: method as u32,
+        number,
+        u,
+        y,
+        index,
+        lower,
+        upper,
+    }
+}
+
+// Puts a sample in whose pair's answer stands in a record, and gives that record. An inner function, for callers that have asked the pair.
+pub fn put_answered(
+    tray: &mut [u32],
+    number: u8,
+    u: u32,
+    y: u32,
+    filled: &[u8; RESULT_SIZE],
+    record: &mut [u8],
+) -> u32
+    requires { ⌜ now filled ≡ recordOf (answerOf u y) ⌝ }
     ensures number { λ r. ⌜ r ≡ putNumber (now (tray .entry)) (now («record» .entry)) number u y ⌝ }
     ensures numbers { λ _. ⌜ now (tray .exit) ≡ trayPut (now (tray .entry)) (now («record» .entry)) number u y ⌝ }
     ensures bytes { λ _. ⌜ now («record» .exit) ≡ recordPut (now (tray .entry)) (now («record» .entry)) number u y ⌝ }
@@ -49,12 +84,25 @@ pub fn put_sample(tray: &mut [u32], number: u8, u: u32, y: u32, record: &mut [u8
     if record.len() != RESULT_SIZE {
         return NOT_ITS_SIZE;
     }
-    let answer = tray::put(tray, number, u, y);
-    let refused = number_of(answer);
+    if tray.len() != TRAY_SIZE {
+        return NOT_ITS_SIZE;
+    }
+    let pair = filled[0];
+    let method = filled[METHOD_AT];
+    let place = place_from(filled, method, number as u32, u, y);
+    let refused = tray::hold(tray, number as u32, pair, place);
     if refused != ANSWERED {
         return refused as u32;
     }
-    write_result(record, 0, answer);
+    store_fields(
+        record,
+        0,
+        ANSWERED,
+        method,
+        place.index,
+        place.lower,
+        place.upper,
+    );
     DONE
 }
 

@@ -85,7 +85,9 @@ pub extern "C" fn vi_tray_put(
     ensures numbers { λ _. ⌜ now (tray .exit) ≡ trayPut (now (tray .entry)) (now («record» .entry)) number u y ⌝ }
     ensures bytes { λ _. ⌜ now («record» .exit) ≡ recordPut (now (tray .entry)) (now («record» .entry)) number u y ⌝ }
 {
-    tray_calls::put_sample(tray, number, u, y, record)
+    let mut filled: [u8; RESULT_SIZE] = [0; RESULT_SIZE];
+    vi_pair(u, y, &mut filled);
+    tray_calls::put_answered(tray, number, u, y, &filled, record)
 }
 
 // Takes a sample out of a lent tray: its pair, and its answer as one record. A refused call leaves all three as they are.

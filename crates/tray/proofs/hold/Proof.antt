@@ -12,9 +12,6 @@ place-of-number-requires c κs = search needs
 free-place-requires : tie.Need-free-place-requires
 free-place-requires c κs = search needs
 
-number-of-requires : tie.Need-number-of-requires
-number-of-requires c κs = search needs
-
 first-no-requires : tie.Need-first-no-requires
 first-no-requires c κs = search needs
 
@@ -24,19 +21,14 @@ same-length c = search needs
 returns : tie.Need-returns
 returns c =
     let asked = c .before in
-    let at-number = asked .before in
-    let at-free = at-number .before in
+    let at-free = asked .before in
     let at-place = at-free .before .before in
-    hold-refused _ _ _ _ _ (asked .first-no .ensures) (at-number .number-of .ensures) (at-place .place-of-number .ensures) (at-free .free-place .ensures)
-    (c .if1 .taken)
-
-place-of-requires : tie.Need-place-of-requires
-place-of-requires c κs = search needs
+    hold-refused _ _ _ (asked .first-no .ensures) (at-place .place-of-number .ensures) (at-free .free-place .ensures) _ (c .if1 .taken)
 
 store-place-requires : tie.Need-store-place-requires
 store-place-requires c κs =
-    let passed = c .before .before in
-    let free : passed .before .before .before .free-place .result < places = place-free _ _ _ (passed .before .first-no .ensures) (passed .if1 .left) in
+    let passed = c .before in
+    let free : passed .before .before .free-place .result < places = place-free _ _ _ (passed .before .first-no .ensures) (passed .if1 .left) in
     search needs
 
 same-length-2 : tie.Need-same-length-2
@@ -45,14 +37,12 @@ same-length-2 c = search needs
 returns-2 : tie.Need-returns-2
 returns-2 c =
     let at-store = c .before .before in
-    let at-made = at-store .before .before in
-    let passed = at-made .before in
+    let passed = at-store .before .before in
     let asked = passed .before in
-    let at-number = asked .before in
-    let at-free = at-number .before in
+    let at-free = asked .before in
     let at-place = at-free .before .before in
-    hold-held _ _ _ _ _ (asked .first-no .ensures) (at-number .number-of .ensures) (at-place .place-of-number .ensures) (at-free .free-place .ensures)
-    (passed .if1 .left) (at-made .place-of .ensures) (at-store .store-place .ensures)
+    hold-held _ _ _ (asked .first-no .ensures) (at-place .place-of-number .ensures) (at-free .free-place .ensures) _ (passed .if1 .left)
+    (at-store .store-place .ensures)
 
 pub hold-spec : {M : Type 1} → statement M
 hold-spec =
@@ -60,11 +50,9 @@ hold-spec =
     (tie.spec
     place-of-number-requires
     free-place-requires
-    number-of-requires
     first-no-requires
     same-length
     returns
-    place-of-requires
     store-place-requires
     same-length-2
     returns-2)
