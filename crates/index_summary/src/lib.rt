@@ -1,9 +1,11 @@
 // What do the answers of several pairs come to? The lowest and the highest index, the sum of indices, and how many answers there are by procedure A, by B
 // settled and by B near. The answers are added one by one, the first to a summary of nothing.
 ghost use mathlib.Core.Path.{_≡_};
-ghost use Prim.Native.Nat.{_*_, _<_, _≤_};
+ghost use Prim.Native.Nat.{_<_, _≤_};
 ghost use lib.IntN.{_+ℤ_};
 ghost use lib.Signed.{mag};
+ghost use mir.Syntax.{w64};
+ghost use mir.Val.{SFits};
 ghost use Rattle.laws.specs.Bits.{span32};
 ghost use Rattle.index.specs.Answer.{indexOf};
 ghost use Rattle.index_summary.specs.Summary.{lesser, greater, one, nothing, joinedOf};
@@ -50,7 +52,7 @@ fn greater(a: i64, b: i64) -> i64
 
 // The sum of indices with one more.
 fn added(sum: i64, index: i64) -> i64
-    requires { ⌜ (mag sum ≤ span32 * most) × (mag index < span32) ⌝ }
+    requires { ⌜ SFits w64 (sum +ℤ index) ⌝ }
     ensures { λ r. ⌜ r ≡ sum +ℤ index ⌝ }
 {
     sum + index

@@ -10,7 +10,7 @@ use mir.Val.{toZ, ofZ}
 use Rattle.laws.specs.Bits.{span32}
 use Rattle.index.specs.Answer.{indexOf}
 use Rattle.index_summary.specs.Summary.{lesser, greater}
-use Rattle.index_summary.proofs.Fits.{back, small-fits}
+use Rattle.index_summary.proofs.Fits.{back, small-fits, sum-fits}
 use Rattle.index_summary.proofs.Made.{joined-made}
 use Rattle.index_summary.proofs.joined.Statement.{statement}
 use Rattle.index_summary.proofs.joined.Tie as tie
@@ -33,7 +33,7 @@ added-requires c κs =
     let pre = at-index .before .pre in
     let index = at-index .index-of .ensures in
     let small : mag (at-index .index-of .result) < span32 = rw index (pre .1) in
-    (rw (back _ (small-fits _ (pre .0 .sum))) (pre .0 .sum), rw (back _ (sfits-of (at-index .index-of .ok))) small)
+    rw (back _ (small-fits _ (pre .0 .sum)), back _ (sfits-of (at-index .index-of .ok))) (sum-fits (at-index .before .args .t .sum) (at-index .index-of .result) (pre .0 .sum) small)
 
 one-if-requires : tie.Need-one-if-requires
 one-if-requires c κs = search needs
