@@ -46,7 +46,7 @@ heldAs tray number = times (numbered number) (heldIn tray)
 abbrev pub orElse : ℕ → ℕ → ℕ
 orElse number following = cond (eqb number 0) following number
 
--- the questions to a pair of that number: 0 where none refuses
+-- the questions to a put, behind the number that the pair's own questions gave; 0 where none refuses
 unfoldable pub holdRefusal : List ℕ → ℕ → ℕ → ℕ
 holdRefusal tray number pair =
     -- "both after the pair's own questions"
@@ -56,7 +56,7 @@ holdRefusal tray number pair =
     -- "32 tray full"
     (ask (ltb (length (heldIn tray)) places) trayFull 0))
 
--- the questions to a put
+-- and the size of the lent memory before them
 unfoldable pub putRefusal : List ℕ → ℕ → ℕ → ℕ → ℕ
 putRefusal tray number u y = ask (isTray tray) notATray (holdRefusal tray number (refusal u y))
 
