@@ -84,7 +84,7 @@ sumOf (answer ∷ answers) = indexOf answer +ℤ sumOf answers
 -- how many are by a method
 unfoldable pub countOf : ℕ → List Answer → ℕ
 countOf method [] = 0
-countOf method (answer ∷ answers) = one (methodOf answer) method + countOf method answers
+countOf method (answer ∷ answers) = cond (eqb (methodOf answer) method) 1 0 + countOf method answers
 
 -- the lowest index is at or below every index and is one of them, the highest likewise; the sum is of all, and each count is of its method
 pub record SummaryOf (answers : List Answer) (t : declared.Summary) : Type 0 where

@@ -7,6 +7,7 @@ use mathlib.Core.List.{List}
 use lib.ListN.{length}
 use Rattle.index.specs.declared.answer.Answer.the-variants as answer
 use Rattle.index.specs.Questions.{refusal}
+use Rattle.index.specs.Answer.{RightAnswer}
 use Rattle.index.specs.ChosenAnswer.{answerOf}
 use Rattle.tray_places.specs.declared.samples.Sample.{Sample}
 use Rattle.tray_places.specs.Places.{emptyTray, heldIn}
@@ -27,7 +28,8 @@ outAll calls = allTakenOut emptyTray calls
 
 -- what holds after a list of calls from the empty tray
 pub record EveryList (calls : List Call) : Type 0 where
-  -- every single sample, of a number, u, y and an answer: as often as it was taken in it was taken out or is held, and it is held once or not at all
+  -- of every single sample, of a number, u, y and an answer, the times taken in are the times taken out and the times held, together; and it is held once
+  -- or not at all
   pub each : (s : Sample) → times (same s) (inAll calls) ≡ times (same s) (outAll calls) + times (same s) (held calls)
   pub once : (s : Sample) → times (same s) (held calls) ≤ 1
   -- samples of every kind
@@ -36,10 +38,11 @@ pub record EveryList (calls : List Call) : Type 0 where
   pub counted : length (inAll calls) ≡ length (outAll calls) + length (held calls)
   -- "A tray holds up to 64 samples"
   pub most : length (held calls) ≤ 64
-  -- the numbers held are all different
+  -- no two samples held have the same number
   pub different : (number : ℕ) → times (numbered number) (held calls) ≤ 1
-  -- each answer held is the one that its pair gets when asked alone, and is no refusal
-  pub alone : (s : Sample) → 0 < times (same s) (held calls) → (refusal (s .u) (s .y) ≡ 0) × (s .answer ≡ answerOf (s .u) (s .y))
+  -- each answer held is the one that its pair gets when asked alone, is no refusal, and is right by document 01
+  pub alone : (s : Sample) → 0 < times (same s) (held calls)
+      → (refusal (s .u) (s .y) ≡ 0) × (s .answer ≡ answerOf (s .u) (s .y)) × RightAnswer (s .u) (s .y) (s .answer)
   -- "32 comes only with 64 held", whatever is put in next
   pub full : (number u y : ℕ) → putAnswer (afterAll emptyTray calls) number u y ≡ answer.Refused 32 → length (held calls) ≡ 64
 
@@ -50,7 +53,13 @@ pub record GivesOut (tray : List ℕ) (number : ℕ) : Type 0 where
   pub number-is : sample .number ≡ number
   pub less : (test : Sample → Bool) → times test (heldIn tray) ≡ times test (heldIn (after tray (Take number))) + one (test sample)
 
--- what holds of each call on any tray, reached by calls or not
+-- memory that is not just 512 numbers: 5, whatever is asked, and it is left as it is
+pub record OtherMemory (tray : List ℕ) (other : length tray ≡ 512 → ⊥) : Type 0 where
+  pub put : (number u y : ℕ) → putAnswer tray number u y ≡ answer.Refused 5
+  pub take : (number : ℕ) → takeAnswer tray number ≡ taken.Refused 5
+  pub left : (call : Call) → after tray call ≡ tray
+
+-- what holds of each call on any tray of 512 numbers, reached by calls or not
 pub record EveryCall (tray : List ℕ) (lent : length tray ≡ 512) : Type 0 where
   -- "A refused call changes nothing"
   pub unchanged : (call : Call) → 0 < callRefusal tray call → after tray call ≡ tray
@@ -66,3 +75,6 @@ pub record EveryCall (tray : List ℕ) (lent : length tray ≡ 512) : Type 0 whe
   -- "33 number not held"
   pub not-held : (number : ℕ) → heldAs tray number ≡ 0 → takeAnswer tray number ≡ taken.Refused 33
   pub taken-out : (number : ℕ) → 0 < heldAs tray number → GivesOut tray number
+  -- what was put in under a number is what is taken out under it: the pair as it was given, and its answer
+  pub put-then-take : (number u y : ℕ) → refusal u y ≡ 0 → heldAs tray number ≡ 0 → length (heldIn tray) < 64
+      → takeAnswer (after tray (Put number u y)) number ≡ taken.Out (record { number = number; u = u; y = y; answer = answerOf u y })

@@ -54,3 +54,11 @@ module _ (t : ℕ → Bool) where
       (λ m.
       by-test (t n) (λ e. absurd (omega (arith, here n m e)))
       (λ e. by-order k n (λ b. none-passes n m k b) (λ b. let same : k ≡ n = omega arith in rw same e)))
+
+  pub none-before : (n i : ℕ) → i < first t n → t i ≡ false
+  none-before zero i l = absurd (omega (arith, first-zero))
+  none-before (suc n) i l =
+      by-order (first t n) n (λ a. none-before n i (omega (arith, earlier n a)))
+      (λ m.
+      by-test (t n) (λ e. none-passes n m i (omega (arith, here n m e)))
+      (λ e. none-passes (suc n) (omega (arith, not-here n m e)) i (omega (arith, not-here n m e))))

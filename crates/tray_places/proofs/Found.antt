@@ -15,7 +15,7 @@ use Rattle.tray_places.specs.declared.samples.Sample.{Sample}
 use Rattle.tray_places.specs.Samples.{sampleOf}
 use Rattle.tray_places.specs.Places.{places, placeSize, traySize, emptyTray, isFree, isHeld, isHeldAs, numberIn, sampleAt, placeOfNumber, freePlace, heldIn, EveryTray, Zeros}
 use Rattle.tray_places.specs.Counts.{one, times, numbered}
-use Rattle.tray_places.proofs.First.{first-passes, none-passes}
+use Rattle.tray_places.proofs.First.{first-passes, none-passes, none-before}
 use Rattle.tray_places.proofs.Held.{none-among, some-among, most-among, free-among, all-among, none-held, one-more}
 use Rattle.tray_places.proofs.Kept.{place-same, held-same, free-there}
 use Rattle.tray_places.proofs.SamplesBack.{stored-held, stored-sample}
@@ -112,9 +112,20 @@ all-held : (l : List ℕ) → ((i : ℕ) → i < 64 → isHeld l i ≡ true) →
 unfolding heldIn
 all-held l f = all-among (isHeld l) (sampleAt l) places f
 
+free-first : (l : List ℕ) (i : ℕ) → i < freePlace l → isHeld l i ≡ true
+unfolding freePlace
+free-first l i h = ap not (none-before (isFree l) places i h)
+
+number-first : (l : List ℕ) (n i : ℕ) → i < placeOfNumber l n → isHeldAs l n i ≡ false
+unfolding placeOfNumber
+number-first l n i h = none-before (isHeldAs l n) places i h
+
 pub every-tray : (l : List ℕ) → EveryTray l
 every-tray l = record {
   sixty-four = all-held l;
+  at-most = held-most l;
+  first-free = free-first l;
+  first-numbered = number-first l;
   frees = λ i b h. free-there l i (omega arith);
   stores = λ s i b h passed alone. (stored-held s passed alone l i (omega arith), stored-sample s passed alone l i (omega arith));
 }

@@ -1,6 +1,6 @@
 -- Change request #102: "A tray holds up to 64 samples". A tray is the list of its numbers: 64 places of eight, and of a place the first number is 0 where
 -- it is free. Memory of zeros is the empty tray.
-use Prim.Native.Nat.{ℕ, zero, suc, _+_, _*_, _<_}
+use Prim.Native.Nat.{ℕ, zero, suc, _+_, _*_, _≤_, _<_}
 use mathlib.Core.Path.{_≡_}
 use mathlib.Core.Bool.{Bool, true, false, cond, not, _&&_}
 use mathlib.Core.List.{List, [], _∷_, _++_}
@@ -93,11 +93,15 @@ heldIn tray = among (isHeld tray) (sampleAt tray) places
 -- ---- what holds of every tray, whatever its numbers are
 
 pub record EveryTray (tray : List ℕ) : Type 0 where
-  -- with 64 places held, 64 samples are
+  -- with 64 places held, 64 samples are, and never more
   pub sixty-four : ((i : ℕ) → i < 64 → isHeld tray i ≡ true) → length (heldIn tray) ≡ 64
+  pub at-most : length (heldIn tray) ≤ 64
+  -- the free place is the first: every place before it is held; and the place of a number is the first: none before it holds the number
+  pub first-free : (i : ℕ) → i < freePlace tray → isHeld tray i ≡ true
+  pub first-numbered : (number i : ℕ) → i < placeOfNumber tray number → isHeldAs tray number i ≡ false
   -- a place that is freed is free
   pub frees : (i : ℕ) → i < 64 → length tray ≡ 512 → isHeld (stored tray (placeSize * i) freed) i ≡ false
-  -- a sample that is stored is held, and is the one that is read, if its answer is the one that its pair gets
+  -- a sample that is stored is held, and is the one that is read, if no question refuses its pair and its answer is the pair's own
   pub stores : (s : Sample) (i : ℕ) → i < 64 → length tray ≡ 512 → refusal (s .u) (s .y) ≡ 0 → s .answer ≡ answerOf (s .u) (s .y)
       → (isHeld (stored tray (placeSize * i) (numbersOf (placeOf s))) i ≡ true) × (sampleAt (stored tray (placeSize * i) (numbersOf (placeOf s))) i ≡ s)
 
