@@ -11,7 +11,7 @@
  * - A buffer of bytes may have any alignment; a row of a constant is aligned as any array of int32_t, a tray and the pair of a sample as any array
  *   of uint32_t, a summary as any array of int64_t. The memories lent to one call must not overlap. Where a length or count is 0, nothing is read
  *   through the pointer.
- * - The same question always gets the same answer; a pair in a record as in a sheet and in a tray.
+ * - The same question always gets the same answer; a pair in a record as in a sheet, and in a tray that calls have filled.
  * - A refused sheet, a record that is not 16 bytes, a row that is not 3 numbers, the row of a refused constant, and all memory lent to a refused
  *   call with a tray are left as they were. vi_pair and vi_sheet fill the record of a refused pair as any other, with the pair's number and zeros;
  *   a refused pair does not stop its sheet.
@@ -36,7 +36,7 @@
 #define VI_Y_ABOVE_MOST 2u   /* Is y at most 500,000? */
 #define VI_U_ABOVE_MOST 3u   /* Is u at most 1,000,000,000? */
 #define VI_U_NOT_ABOVE_Y 4u  /* Is u greater than y? */
-#define VI_RECORD_NOT_16 5u  /* asked first, by vi_pair alone: Is the record just 16 bytes? */
+#define VI_RECORD_NOT_16 5u  /* asked first, and by vi_pair: Is the record just 16 bytes? */
 
 /* The number of a sheet, likewise. Sums are taken as whole numbers and do not wrap. */
 #define VI_ACCEPTED 0u       /* every question is answered yes */
@@ -110,13 +110,14 @@
 #define VI_TRAY_SIZE 512u  /* numbers of 32 bits, not bytes: 2,048 bytes */
 #define VI_TRAY_PLACES 64u /* a sample each */
 
-/* A place, by its numbers. It is free where its method is 0, whatever else stands in it. */
+/* A place, by its numbers. It is free where its method is 0, whatever else stands in it. Calls store numbers up to 255; a greater one, in a tray that was
+   made otherwise, is held and counted, and no call takes it out. */
 #define VI_PLACE_SIZE 8u   /* numbers, not bytes; the last is 0 in a sample that was put in */
 #define VI_PLACE_METHOD 0u /* 0 free, 1 by A, 2 by B settled, 3 and any other by B near */
 #define VI_PLACE_NUMBER 1u /* the number of the sample */
 #define VI_PLACE_U 2u      /* its u */
 #define VI_PLACE_Y 3u      /* its y */
-#define VI_PLACE_INDEX 4u  /* the index: by A two's complement, by B without sign */
+#define VI_PLACE_INDEX 4u  /* the index: by A two's complement, by B without sign, and at most VI_INDEX_B_GREATEST where it was put in */
 #define VI_PLACE_LOWER 5u  /* p, by procedure B; 0 in a sample by A that was put in */
 #define VI_PLACE_UPPER 6u  /* P, likewise */
 

@@ -37,8 +37,8 @@ stateOf tray = cond (isTray tray) (stateAfter Empty (heldIn tray)) (Refused notA
 abbrev pub answersIn : List ℕ → List Answer
 answersIn tray = map (λ (s : Sample). s .answer) (heldIn tray)
 
--- by cases: refused with 5 where the memory is not as large as a tray; "an empty tray says so"; or the summary of the answers held, whose counts are of
--- all of them
+-- by cases: refused with 5 where the memory is not just 512 numbers; "an empty tray says so"; or the summary of the answers held, whose counts come to all of
+-- them together
 abbrev pub RightState : List ℕ → State → Type 0
 RightState tray (Refused number) = (number ≡ 5) × (length tray ≡ 512 → ⊥)
 RightState tray Empty = (length tray ≡ 512) × (heldIn tray ≡ [])

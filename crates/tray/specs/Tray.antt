@@ -1,5 +1,6 @@
 -- Change request #102: what putting in and taking out answer, and the tray afterwards. "Refused: 31 number already held, 32 tray full, both after the pair's own
--- questions; 33 number not held, on taking out." The lent memory is asked for its size first, as document 01 asks the pair's record.
+-- questions; 33 number not held, on taking out." The lent memory is asked for its size first, as document 01 asks the pair's record. A sample's number has no bound
+-- here; that it is one byte, the calls say.
 use Prim.Native.Nat.{ℕ, _*_}
 use mathlib.Core.Bool.{Bool, cond}
 use mathlib.Core.List.{List}
@@ -34,7 +35,7 @@ trayFull = 32
 abbrev pub numberNotHeld : ℕ
 numberNotHeld = 33
 
--- is the lent memory as large as a tray?
+-- is the lent memory just 512 numbers?
 abbrev pub isTray : List ℕ → Bool
 isTray tray = eqb (length tray) traySize
 

@@ -8,7 +8,7 @@ use lib.ListN.{length}
 use Rattle.tray_places.specs.Places.{heldIn}
 use Rattle.tray_calls.specs.TrayCalls.{putNumber, trayPut, recordPut, takeNumber, trayTaken, pairTaken, recordTaken, summaryNumber, summaryAfter}
 
--- a call that answers a number leaves every lent memory as it was
+-- a call that answers a number other than 0 leaves every lent memory as it was
 pub record RefusedCalls (tray lent pair : List ℕ) (row : List ℤ) : Type 0 where
   pub put : (number u y : ℕ) → 0 < putNumber tray lent number u y → (trayPut tray lent number u y ≡ tray) × (recordPut tray lent number u y ≡ lent)
   pub take : (number : ℕ) → 0 < takeNumber tray pair lent number
