@@ -1,7 +1,7 @@
 #!/usr/bin/env bash
 # The cost of a put, a take and a summary beside plain C with the same tray.
 #
-#   bench/tray.sh         ns a call and ratios, several repetitions, with 1 and with 64 samples held, for an oil by A and one by B
+#   bench/tray.sh         ns a call and ratios, several repetitions, with none, 1, 63 or 64 samples held, puts and takes for an oil by A and one by B
 #   bench/tray.sh count   instructions a call by valgrind's callgrind, which a noisy machine does not change
 set -eu
 root=$(cd "$(dirname "$0")/.." && pwd)

@@ -36,7 +36,7 @@
 #define VI_Y_ABOVE_MOST 2u   /* Is y at most 500,000? */
 #define VI_U_ABOVE_MOST 3u   /* Is u at most 1,000,000,000? */
 #define VI_U_NOT_ABOVE_Y 4u  /* Is u greater than y? */
-#define VI_RECORD_NOT_16 5u  /* asked first, and by vi_pair: Is the record just 16 bytes? */
+#define VI_RECORD_NOT_16 5u  /* asked first by vi_pair: Is the record just 16 bytes? Calls with a tray have VI_TRAY_NOT_LENT. */
 
 /* The number of a sheet, likewise. Sums are taken as whole numbers and do not wrap. */
 #define VI_ACCEPTED 0u       /* every question is answered yes */
@@ -106,7 +106,7 @@
 #define VI_INDEX_B_GREATEST 10000
 
 /* A tray: 64 places of 8 numbers each, one behind the other. Place i begins at number VI_PLACE_SIZE * i. All zeros is the empty tray. Any numbers are
-   some tray, so that one which was stored can be loaded again, or lent from other memory at each call. */
+   some tray. A tray may be stored and loaded again, or lent from other memory at each call. */
 #define VI_TRAY_SIZE 512u  /* numbers of 32 bits, not bytes: 2,048 bytes */
 #define VI_TRAY_PLACES 64u /* a sample each */
 

@@ -2,7 +2,7 @@
 # Compares the library with an implementation that shares nothing with it.
 #   tests/compare.sh                              what the gate runs
 #   tests/compare.sh --pairs 50000000 --seed 7    a longer run; also --sheets M, --constants C, --trays T
-# At least 5 million pairs, 100,000 sheets, 10 million constants and 2 million calls with trays unless told otherwise, and
+# 7 million pairs, 100,000 sheets, 10 million constants and 2 million calls with trays unless told otherwise, and
 # four constants by whole powers; --powers 0 leaves these out.
 set -euo pipefail
 . "$(dirname "$0")/compare/common.sh"

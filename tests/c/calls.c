@@ -472,7 +472,7 @@ static void summary_is(int64_t count, int64_t lowest, int64_t highest, int64_t s
     }
 }
 
-/* from empty to full and back, every question on the way; the first fails of several gives its number */
+/* from empty to full and back, every question on the way; of several that fail the first gives its number */
 static void tray_from_empty_to_full(void)
 {
     memset(held, 0, sizeof held);

@@ -1,6 +1,7 @@
-/* The C calls, declared here again from document 01 and change requests #101 and
-   #102 so that nothing of the library's own header is included. How a tray is laid
-   out the header alone says; tray.h has it again. */
+/* The C calls, declared here again so that nothing of the library's own header is
+   included: from document 01 and change request #101, and those of the tray (#102)
+   from what the header says. How a tray is laid out the header alone says; tray.h
+   has it again. */
 #ifndef LIBRARY_H
 #define LIBRARY_H
 

@@ -431,7 +431,7 @@ static void every_number(void)
     }
 }
 
-/* Each memory of every other size, in turn, with calls that would be answered and
+/* Each memory of other sizes, in turn, with calls that would be answered and
    calls that would be refused. */
 static void with_size(struct list *l, struct sizes sizes)
 {

@@ -95,7 +95,7 @@ fn three_samples(tray: &mut [u32; TRAY_SIZE]) {
         put_by_b(tray, 7, 22_830, 5_050, 156),
     );
     told(
-        b"put 200 (144936, 16776): B 125, near",
+        b"put 200 (144936, 16776): B 125",
         put_by_b(tray, 200, 144_936, 16_776, 125),
     );
     told(

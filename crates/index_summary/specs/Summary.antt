@@ -1,5 +1,5 @@
 -- Change request #102: "Asked, it gives the lowest and highest index, the sum of indices and the count for each of A, B settled and B near". A summary of
--- answers, found by walking them one after the other, and what it is for a summary to be right.
+-- answers, made by adding them one after the other, and what it is for a summary to be right.
 use Prim.Native.Nat.{ℕ, _+_}
 use mathlib.Core.Path.{_≡_}
 use mathlib.Core.Logic.{_⊎_}
@@ -24,7 +24,7 @@ greater a b = cond (ltZ a b) b a
 abbrev pub one : ℕ → ℕ → ℕ
 one method same = cond (eqb method same) 1 0
 
--- the methods that are counted: "1 A, 2 B settled, 3 B near"
+-- the methods that are counted, by document 01: "1 A, 2 B settled, 3 B near"
 abbrev pub methodA : ℕ
 methodA = 1
 

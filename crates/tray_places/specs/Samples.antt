@@ -11,7 +11,7 @@ use Rattle.answer_record.specs.Bytes.{twosComplement, signedOf}
 use Rattle.tray_places.specs.declared.samples.Sample.{Sample}
 use Rattle.tray_places.specs.declared.samples.Place.{Place}
 
--- the numbers that say a sample: "1 A, 2 B settled, 3 B near", its number, its pair, the index in two's complement, p and P
+-- the numbers that say a sample: the method (document 01: "1 A, 2 B settled, 3 B near"), its number, its pair, the index in two's complement, p and P
 unfoldable pub placeOf : Sample → Place
 placeOf s = record {
   method = methodOf (s .answer);
