@@ -13,20 +13,20 @@ use Rattle.reference.specs.StraightLines.{Stands}
 -- ---- the viscosity of a row, by the range that the row is in
 
 -- the rows from `first` to `last` are `spacing` apart, and row `first` stands at `start`
-abbrev Spaced : ℕ → ℕ → ℕ → ℕ → Type 0
+abbrev pub Spaced : ℕ → ℕ → ℕ → ℕ → Type 0
 Spaced first last start spacing = (k : ℕ) → first + k ≤ last → viscosityOf (first + k) ≡ start + k * spacing
 
-fine-rows : Spaced 0 180 2000 100
+pub fine-rows : Spaced 0 180 2000 100
 fine-rows k h =
     by-order (0 + k) 180 (λ a. rw (lt-ltb (0 + k) 180 a) (omega arith))
     (λ a. rw (le-ltb (0 + k) 180 a, lt-ltb (0 + k) 230 (omega arith)) (omega arith))
 
-middle-rows : Spaced 180 230 20000 200
+pub middle-rows : Spaced 180 230 20000 200
 middle-rows k h =
     rw (le-ltb (180 + k) 180 (omega arith))
     (by-order (180 + k) 230 (λ a. rw (lt-ltb (180 + k) 230 a) (omega arith)) (λ a. rw (le-ltb (180 + k) 230 a) (omega arith)))
 
-coarse-rows : Spaced 230 rowCount 30000 500
+pub coarse-rows : Spaced 230 rowCount 30000 500
 coarse-rows k h = rw (le-ltb (230 + k) 180 (omega arith), le-ltb (230 + k) 230 (omega arith)) (omega arith)
 
 -- ---- y among rows of one spacing

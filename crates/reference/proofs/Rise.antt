@@ -3,11 +3,14 @@
 use Prim.Native.Nat.{ℕ, zero, suc, _+_, _-_, _<_, _≤_}
 use mathlib.Core.Bool.{Bool, _&&_}
 use native.Mathlib.Omega.{arith}
+use native.Mathlib.Nat.{le-of-lt}
 use native.Mathlib.Numerals.{add-one}
 use lib.Dec.{T, ltb, ltb→lt, leb→le}
 use Rattle.laws.proofs.Computed.{and-left, and-right, upTo, below}
+use Rattle.reference.specs.declared.ReferenceOil.{ReferenceOil}
+use Rattle.reference.specs.declared.ReferenceOil.the-variants as oil
 use Rattle.reference.specs.Table1.{table1}
-use Rattle.reference.specs.Basis.{entry, rowL, rowH, rowCount, lastRowAt}
+use Rattle.reference.specs.Basis.{entry, rowL, rowH, rowCount, lastRowAt, columnOf}
 use Rattle.reference.specs.Limits.{leastRowDifference}
 use Rattle.reference.specs.Rise.{TableRises}
 
@@ -45,6 +48,11 @@ table-rises =
             difference = ltb→lt (rowL i - rowH i) (rowL (i + 1) - rowH (i + 1)) (and-right (riseH i) (riseDifference i) u);
           };
     }
+
+-- so the entry of either reference oil is not less in the next row
+pub entries-rise : (o : ReferenceOil) (i : ℕ) → i < lastRowAt → entry (columnOf o) i ≤ entry (columnOf o) (i + 1)
+entries-rise oil.L i h = le-of-lt (table-rises .rises i h .l)
+entries-rise oil.H i h = le-of-lt (table-rises .rises i h .h)
 
 -- H is at least 1.6 mm²/s below L at every row: it is at the first, and L − H rises
 pub rows-apart : (i : ℕ) → i < rowCount → rowH i + leastRowDifference ≤ rowL i

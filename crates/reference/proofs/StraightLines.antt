@@ -3,11 +3,11 @@ use Prim.Native.Nat.{ℕ, _+_, _*_, _-_, _<_, _≤_}
 use mathlib.Core.Path.{_≡_, sym, _∙_, ap}
 use mathlib.Core.Logic.{⊎-elim}
 use native.Mathlib.Omega.{arith}
-use native.Mathlib.Nat.{mul-le-mul-right, add-mul, mul-add, eq-zero-or-pos}
+use native.Mathlib.Nat.{mul-le-mul-right, add-mul, mul-add, mul-assoc, eq-zero-or-pos}
 use borrow.Author.Tests.{eq-eqb, ne-eqb}
 use Rattle.reference.specs.declared.Place.{Place}
 use Rattle.reference.specs.Viscosity.{inUnits}
-use Rattle.reference.specs.Basis.{wholeWay, straightLine, atPlace}
+use Rattle.reference.specs.Basis.{wholeWay, unitsPerMillionth, straightLine, atPlace}
 
 -- ---- the straight line
 
@@ -18,6 +18,12 @@ weights-add-up k share s = sym (mul-add k (wholeWay - share) share) ∙ ap (λ (
 -- between two equal entries it is level
 pub straight-line-level : (k share : ℕ) → share ≤ wholeWay → straightLine k k share ≡ inUnits k
 straight-line-level k share s = omega (arith, weights-add-up k share s)
+
+-- from a up to b it is a and so much of the rise as the share says
+pub straight-line-rises : (a b share : ℕ) → a ≤ b → share ≤ wholeWay → inUnits a + (b - a) * (share * unitsPerMillionth) ≡ straightLine a b share
+straight-line-rises a b share h s =
+    let to-b : b * share ≡ a * share + (b - a) * share = ap (λ (n : ℕ). n * share) (omega arith) ∙ add-mul a (b - a) share in
+    omega (arith, weights-add-up a share s, to-b, mul-assoc (b - a) share unitsPerMillionth)
 
 -- where both ends lie g lower, it lies g lower all the way
 pub straight-lines-apart :

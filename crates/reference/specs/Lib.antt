@@ -2,6 +2,7 @@
 pub mod Viscosity
 pub mod Table1
 pub mod Basis
+pub mod Rows
 pub mod StraightLines
 pub mod Rise
 pub mod Limits

@@ -11,8 +11,10 @@ ghost use Prim.Native.Nat.{_<_, _≤_, _+_, _*_, _-_};
 ghost use Rattle.reference.specs.Viscosity.{least100, greatest100, least40, greatest40, asked100, asked40, inUnits};
 ghost use Rattle.reference.specs.Table1.{table1};
 ghost use Rattle.reference.specs.Basis.{rowSize, entry, lastRow, wholeWay, placeOf, InTable, straightLine, columnOf, atPlace, byQuadratic, sourceOf, basisValue, basisOf, basisAnswerOf};
+use row::find_row;
 use table1::TABLE1;
 
+mod row;
 mod table1;
 
 // ---- the two viscosities, and the questions about one of them
@@ -112,31 +114,15 @@ pub enum Source {
 // The viscosity of the table's last row. The quadratics begin above it, and do not meet the table there.
 const LAST_ROW: u32 = 70_000;
 
-// The way from a row to the next one, in the thousandths that a share is counted in.
-const WHOLE_WAY: u32 = 1_000;
-
-// The smaller of two numbers.
-fn smaller(a: u32, b: u32) -> u32
-    ensures { λ r. ⌜ (a ≤ b → r ≡ a) × (b ≤ a → r ≡ b) ⌝ }
-{
-    if a < b {
-        return a;
-    }
-    b
-}
-
-// The place of y: the row at or below it, and its share of the way to the next. The rows are 100, 200 or 500 thousandths apart; measured in
-// thousandths of that spacing, y stands 10·y − 20,000, 5·y + 80,000 or 2·y + 170,000 past row 0. The spacing grows with y, so each of the
-// three is the least where it counts, and one division serves all of them.
+// The place of y: the row that is found, and the share of the way.
 fn locate(y: u32) -> Place
     requires { ⌜ (least100 ≤ y) × (y ≤ lastRow) ⌝ }
     ensures { λ r. ⌜ r ≡ placeOf y ⌝ }
 {
-    let from_20 = smaller(5 * y + 80_000, 2 * y + 170_000);
-    let along = smaller(10 * y - 20_000, from_20);
+    let found = find_row(y);
     Place {
-        row: (along / WHOLE_WAY) as usize,
-        share: along % WHOLE_WAY,
+        row: found.row,
+        share: found.share,
     }
 }
 
@@ -183,13 +169,13 @@ fn column_of(oil: ReferenceOil) -> usize
     }
 }
 
-// The straight line from a to b, both in thousandths, at a share of the way: in units.
+// The straight line from a up to b, both in thousandths, at a share of the way: in units.
 fn straight_line(a: u32, b: u32, share: u32) -> u64
-    requires { ⌜ share ≤ wholeWay ⌝ }
+    requires { ⌜ (a ≤ b) × (share ≤ wholeWay) ⌝ }
     ensures { λ r. ⌜ r ≡ straightLine a b share ⌝ }
 {
-    let rest = WHOLE_WAY - share;
-    ((a as u64) * (rest as u64) + (b as u64) * (share as u64)) * UNITS_PER_MILLIONTH
+    let rise = b - a;
+    in_units(a) + (rise as u64) * ((share as u64) * UNITS_PER_MILLIONTH)
 }
 
 // L or H at a place of the table.

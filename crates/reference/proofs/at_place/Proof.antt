@@ -5,6 +5,7 @@ use borrow.Author.Tests.{eq-eqb, ne-eqb}
 use borrow.Author.Needs.{needs}
 use Rattle.reference.specs.Basis.{entry, atPlace}
 use Rattle.reference.specs.Table1.{table1}
+use Rattle.reference.proofs.Rise.{entries-rise}
 use Rattle.reference.proofs.at_place.Statement.{statement}
 use Rattle.reference.proofs.at_place.Tie as tie
 
@@ -61,7 +62,12 @@ element-copy-out-straight-line-2 : tie.Need-element-copy-out-straight-line-2
 element-copy-out-straight-line-2 c = omega (arith, c .before .before .before .pre .1 .next (c .before .if1 .left))
 
 line-requires : tie.Need-straight-line-requires
-line-requires c κs = search needs
+unfolding entry
+line-requires c κs =
+    let s = c .before .before .before .before in
+    let e : s .args .rows .now ≡ table1 = s .pre .0 in
+    let next = s .pre .1 .next (c .before .before .if1 .left) in
+    (rw (e, c .before .before .before .column-of .ensures .0) (entries-rise (s .args .oil) (s .args .p .row) (omega arith)), omega arith)
 
 returns-2 : tie.Need-returns-2
 unfolding entry atPlace
