@@ -41,6 +41,8 @@ wrong=(
     "halves rounded to the even number"
     "procedure B in single precision"
     "procedure B with five-digit logarithms"
+    "a row too low exactly on a row"
+    "the spacing of 0.2 kept above 30.0"
 )
 
 # Likewise, wrong_constants.c.

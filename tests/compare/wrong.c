@@ -17,7 +17,7 @@ enum {
     FIRST_COPIED, INVENTED, REFUSES_ALL, QUADRATIC_AT_70, ROUNDED_H, SPARE_BYTE, ORDER_OF_QUESTIONS,
     LENGTH_NOT_ASKED, REFUSED_SHEET_CHANGED, PAIR_STOPS_SHEET, BYTE_BESIDE_BLOCK, UNSORTED_P, B_AT_H,
     P_TOO_SMALL, P_TOO_GREAT, BLOCKS_TOUCH, COUNT_2001, EVEN_HALF,
-    SINGLE_B, FIVE_DIGITS_B
+    SINGLE_B, FIVE_DIGITS_B, ROW_TOO_LOW, SPACING_KEPT
 };
 
 static uint32_t get(const uint8_t *b)
@@ -51,6 +51,20 @@ static struct record with_row(uint32_t u, uint32_t y, int32_t row_y, int32_t l, 
             rows[i].h += h;
         }
     return own_answer(rows, u, y);
+}
+
+/* The viscosity whose L and H a wrong way to the row takes for those of y: on a row
+   the row before it; above 30.0 the rows as if 0.2 apart, of which there are 80, up
+   to 46.0. */
+static uint32_t wrong_place(uint32_t y)
+{
+    if (WRONG == ROW_TOO_LOW)
+        for (int i = 1; i < ROWS; i++)
+            if ((uint32_t)table[i].y == y)
+                return (uint32_t)table[i - 1].y;
+    if (WRONG == SPACING_KEPT && y > 30000 && y <= 30000 + 80 * 200)
+        return 30000 + (y - 30000) * 500 / 200;
+    return y;
 }
 
 static double five(double x)
@@ -158,6 +172,11 @@ uint32_t __wrap_vi_pair(uint32_t u, uint32_t y, uint8_t *record, size_t length)
     if (WRONG == QUADRATIC_AT_70 && y == TABLE_END) {
         o.L = 8353 * (int64_t)y * y + 146700000 * (int64_t)y - INT64_C(2160000000000);
         o.H = 1684 * (int64_t)y * y + 118500000 * (int64_t)y - INT64_C(970000000000);
+        if (!below_h(&o))
+            return put_record((struct record){ .method = BY_A, .index = (int32_t)index_a(&o) }, record);
+    }
+    if (wrong_place(y) != y) {
+        basis(table, wrong_place(y), &o.L, &o.H);
         if (!below_h(&o))
             return put_record((struct record){ .method = BY_A, .index = (int32_t)index_a(&o) }, record);
     }
