@@ -161,26 +161,33 @@ static void tray_with_named(uint32_t held, uint32_t not_held)
     tray_calls(not_held, 73300, 8860, VI_TRAY_SIZE, 0);
 }
 
+enum { APART = 16843009 }; /* the numbers of samples, from 0 to 4,294,967,295 where i is from 0 to 255 */
+
+static uint32_t wide(uint32_t i)
+{
+    return (uint32_t)APART * i;
+}
+
 /* from the empty tray to the full one, drawn samples that come and go, and trays of any numbers */
 static void trays(void)
 {
     for (uint32_t held = 0; held <= VI_TRAY_PLACES; held++) {
         if (held <= 1 || held >= VI_TRAY_PLACES - 1)
-            tray_with_named(held, 255);
-        tray_calls(held + 1, named[4 + held % 4][0], named[4 + held % 4][1], VI_TRAY_SIZE, VI_RECORD_SIZE);
+            tray_with_named(wide(held), wide(255));
+        tray_calls(wide(held + 1), named[4 + held % 4][0], named[4 + held % 4][1], VI_TRAY_SIZE, VI_RECORD_SIZE);
         memcpy(before, tray, sizeof before);
     }
     for (int i = 0; i < DRAWN; i++) {
         uint32_t u, y;
         draw_pair(i, &u, &y);
-        tray_calls(drawn(0, 99), u, y, VI_TRAY_SIZE, VI_RECORD_SIZE);
-        vi_tray_take(tray, VI_TRAY_SIZE, (uint8_t)drawn(0, 199), sample, VI_SAMPLE_PAIR_SIZE, record, VI_RECORD_SIZE);
+        tray_calls(wide(drawn(0, 99)), u, y, VI_TRAY_SIZE, VI_RECORD_SIZE);
+        vi_tray_take(tray, VI_TRAY_SIZE, wide(drawn(0, 199)), sample, VI_SAMPLE_PAIR_SIZE, record, VI_RECORD_SIZE);
         memcpy(before, tray, sizeof before);
     }
     for (int i = 0; i < 20; i++) {
         for (uint32_t j = 0; j < VI_TRAY_SIZE; j++)
-            before[j] = drawn(0, j % VI_PLACE_SIZE == VI_PLACE_METHOD ? 4 : j % VI_PLACE_SIZE == VI_PLACE_NUMBER ? 300 : UINT32_MAX - 1);
-        tray_with_named(drawn(0, 127), drawn(128, 255));
+            before[j] = j % VI_PLACE_SIZE == VI_PLACE_NUMBER ? wide(drawn(0, 300)) : drawn(0, j % VI_PLACE_SIZE == VI_PLACE_METHOD ? 4 : UINT32_MAX - 1);
+        tray_with_named(wide(drawn(0, 127)), wide(drawn(128, 255)));
     }
 }
 

@@ -20,7 +20,8 @@
 #include "measure.h"
 #include "viscosity_index.h"
 
-enum { TRAYS = 4, CALLS = 2000, PASSES = 100, STEPS = 100000, NUMBERS = 256 };
+enum { TRAYS = 4, CALLS = 2000, PASSES = 100, STEPS = 100000 };
+enum { NUMBERS = 256, APART = 16843009 }; /* the numbers of samples, from 0 to 4,294,967,295 */
 enum operation { PUT, TAKE, SUMMARY };
 
 static const struct oil {
@@ -53,7 +54,7 @@ enum { SITUATIONS = sizeof situations / sizeof *situations };
 static uint32_t trays[TRAYS][VI_TRAY_SIZE], pair[VI_SAMPLE_PAIR_SIZE];
 static uint8_t record[VI_RECORD_SIZE];
 static int64_t row[VI_SUMMARY_SIZE];
-static uint8_t asked[TRAYS];    /* the number that is asked for */
+static uint32_t asked[TRAYS];   /* the number that is asked for */
 static uint32_t at, was[TRAYS]; /* where the first number of the place stands that a call changes, and what it is before */
 static volatile int64_t sink;
 
@@ -61,7 +62,7 @@ static volatile int64_t sink;
 
 #define CALLED __attribute__((noipa))
 
-static CALLED uint32_t plain_put(uint32_t *tray, size_t tray_count, uint8_t number, uint32_t u, uint32_t y, uint8_t *to, size_t length)
+static CALLED uint32_t plain_put(uint32_t *tray, size_t tray_count, uint32_t number, uint32_t u, uint32_t y, uint8_t *to, size_t length)
 {
     uint32_t *vacant = NULL;
     if (tray_count != VI_TRAY_SIZE || length != VI_RECORD_SIZE)
@@ -92,7 +93,7 @@ static CALLED uint32_t plain_put(uint32_t *tray, size_t tray_count, uint8_t numb
     return VI_ANSWERED;
 }
 
-static CALLED uint32_t plain_take(uint32_t *tray, size_t tray_count, uint8_t number, uint32_t *u_and_y, size_t pair_count, uint8_t *to, size_t length)
+static CALLED uint32_t plain_take(uint32_t *tray, size_t tray_count, uint32_t number, uint32_t *u_and_y, size_t pair_count, uint8_t *to, size_t length)
 {
     if (tray_count != VI_TRAY_SIZE || pair_count != VI_SAMPLE_PAIR_SIZE || length != VI_RECORD_SIZE)
         return VI_TRAY_NOT_LENT;
@@ -166,11 +167,11 @@ static void fill(const struct situation *s, struct oil oil)
     if (record[VI_RECORD_METHOD] != oil.method)
         fail("the oil has another method", oil.name, record[VI_RECORD_METHOD]);
     for (int t = 0; t < TRAYS; t++) {
-        uint8_t numbers[NUMBERS];
+        uint32_t numbers[NUMBERS];
         for (int i = 0; i < NUMBERS; i++) {
             int j = (int)((i + 1) * random_unit());
             numbers[i] = numbers[j];
-            numbers[j] = (uint8_t)i;
+            numbers[j] = APART * (uint32_t)i;
         }
         memset(trays[t], 0, sizeof trays[t]);
         for (uint32_t i = 0; i < s->held; i++) {
@@ -198,7 +199,7 @@ static void compare(void)
     int answers[NUMBERS] = {0};
     memset(tray, 0, sizeof trays[0]);
     for (int i = 0; i < STEPS; i++) {
-        uint8_t number = (uint8_t)(100 * random_unit());
+        uint32_t number = APART * (uint32_t)(100 * random_unit());
         double puts = i / 1000 % 2 == 0 ? 0.8 : 0.1; /* a thousand steps that fill the tray, a thousand that empty it */
         struct oil oil = draw();
         if (random_unit() < 0.05)

@@ -110,11 +110,10 @@
 #define VI_TRAY_SIZE 512u  /* numbers of 32 bits, not bytes: 2,048 bytes */
 #define VI_TRAY_PLACES 64u /* a sample each */
 
-/* A place, by its numbers. It is free where its method is 0, whatever else stands in it. Calls store numbers up to 255; a greater one, in a tray that was
-   made otherwise, is held and counted, and no call takes it out. */
+/* A place, by its numbers. It is free where its method is 0, whatever else stands in it. */
 #define VI_PLACE_SIZE 8u   /* numbers, not bytes; the last is 0 in a sample that was put in */
 #define VI_PLACE_METHOD 0u /* 0 free, 1 by A, 2 by B settled, 3 and any other by B near */
-#define VI_PLACE_NUMBER 1u /* the number of the sample */
+#define VI_PLACE_NUMBER 1u /* the number of the sample, any number of 32 bits; 0 and 4,294,967,295 are numbers like the others */
 #define VI_PLACE_U 2u      /* its u */
 #define VI_PLACE_Y 3u      /* its y */
 #define VI_PLACE_INDEX 4u  /* the index: by A two's complement, by B without sign, and at most VI_INDEX_B_GREATEST where it was put in */
@@ -169,8 +168,11 @@ uint32_t vi_constant_100(uint32_t viscosity, uint32_t density, int32_t *row, siz
  * answers VI_TRAY_NOT_LENT. Then the pair's questions are asked, 1 to 4, then 31 and 32. A refused call changes nothing, in the tray or in the
  * record. Otherwise the first free place of the tray holds the sample, the record is the pair's answer, as vi_pair fills it, and VI_ANSWERED is
  * answered.
+ * `number` is any number of 32 bits. It was a uint8_t before change request #104, here and in vi_tray_take: compile what calls them again. The layout
+ * and the size of a tray are as before, and calls with numbers up to 255 get the answers they got, also with a tray that was filled before. Hand
+ * over a type without sign: a char that is below zero, which became a number up to 255, now becomes one above 4,294,967,000.
  */
-uint32_t vi_tray_put(uint32_t *tray, size_t tray_count, uint8_t number, uint32_t u, uint32_t y, uint8_t *record, size_t length);
+uint32_t vi_tray_put(uint32_t *tray, size_t tray_count, uint32_t number, uint32_t u, uint32_t y, uint8_t *record, size_t length);
 
 /*
  * Takes a sample out of a tray. `pair` points to `pair_count` numbers (not bytes). Unless the sizes are VI_TRAY_SIZE, VI_SAMPLE_PAIR_SIZE and
@@ -178,7 +180,7 @@ uint32_t vi_tray_put(uint32_t *tray, size_t tray_count, uint8_t number, uint32_t
  * record is the answer held with them, the place is free (its first number is 0, its other numbers are as they were), and VI_ANSWERED is
  * answered. Where several places hold one number, which no list of calls from an empty tray leads to, it is the first of them.
  */
-uint32_t vi_tray_take(uint32_t *tray, size_t tray_count, uint8_t number, uint32_t *pair, size_t pair_count, uint8_t *record, size_t length);
+uint32_t vi_tray_take(uint32_t *tray, size_t tray_count, uint32_t number, uint32_t *pair, size_t pair_count, uint8_t *record, size_t length);
 
 /*
  * The summary of a tray, which is only read. `row` points to `row_count` numbers (not bytes). Unless the sizes are VI_TRAY_SIZE and

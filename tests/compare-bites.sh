@@ -1,9 +1,10 @@
 #!/usr/bin/env bash
 # Shows that the comparison can fail: each of these wrong libraries, made from
-# the real one by tests/compare/wrong.c, wrong_constants.c and wrong_trays.c, must be
-# noticed. The real one must pass the same short run, and so must four that choose
-# otherwise where document 01 or the constant's request leaves the choice free. Then
-# every last digit of the table and of the two formulas, one more and one less.
+# the real one by tests/compare/wrong.c, wrong_constants.c, wrong_trays.c and
+# wrong_numbers.c, must be noticed. The real one must pass the same short run, and so
+# must four that choose otherwise where document 01 or the constant's request leaves
+# the choice free. Then every last digit of the table and of the two formulas, one
+# more and one less.
 set -euo pipefail
 . "$(dirname "$0")/compare/common.sh"
 have_headers
@@ -159,6 +160,33 @@ wrong_trays=(
 # The number that follows: right, but with other fractions.
 right_trays=("fractions as wide as they may be, of pair and tray alike")
 
+# Likewise, wrong_numbers.c.
+wrong_numbers=(
+    "put compares numbers by their lowest byte"
+    "put compares numbers by 16 bits"
+    "put compares numbers by 24 bits"
+    "put compares numbers by 31 bits"
+    "put compares numbers in single precision"
+    "take compares numbers by their lowest byte"
+    "take compares numbers by 16 bits"
+    "take compares numbers by 24 bits"
+    "take compares numbers by 31 bits"
+    "take compares numbers in single precision"
+    "numbers cut to one byte by put and take, as before #104"
+    "numbers cut to 16 bits by put and take"
+    "numbers cut to 24 bits by put and take"
+    "numbers cut to 31 bits by put and take"
+    "numbers stored in 16 bits"
+    "4,294,967,295 taken for no sample: answered, but not stored"
+    "4,294,967,295 taken for no sample: never held"
+    "4,294,967,295 taken for no sample: not in the summary"
+    "number 0 taken for a free place: overwritten"
+    "number 0 taken for a free place: not in the summary"
+    "numbers above 2,147,483,647 refused"
+    "numbers above 999,999,999 refused"
+    "4,294,967,295 refused"
+)
+
 build_compare sound
 "$work/sound" "${short[@]}" >"$work/out" 2>&1 || { cat "$work/out"; die "the real library fails the short run"; }
 
@@ -195,9 +223,14 @@ for i in "${!right_trays[@]}"; do
     "$work/right" "${short_trays[@]}" >"$work/out" 2>&1 || { cat "$work/out"; die "not let pass: ${right_trays[$i]}"; }
     echo "passes: ${right_trays[$i]}: $(sed -n 's/^index from .*; widest/widest/p' "$work/out")"
 done
+numbers=--wrap=vi_tray_put,--wrap=vi_tray_take,--wrap=vi_tray_summary
+for i in "${!wrong_numbers[@]}"; do
+    must_notice wrong_numbers.c $((i + 1)) "${wrong_numbers[$i]}" "$numbers" "${short_trays[@]}"
+done
 # Needs no library: the wrong ones are our own with another table.
 from=$root/tests/compare
 build digits "$from"/{digits,harness,pairs,constants,oil,constant}.c
 "$work/digits" || die "a changed digit is not noticed"
 
-echo "compare-bites: passed: $((${#wrong[@]} + ${#wrong_constants[@]} + ${#wrong_trays[@]})) wrong libraries noticed, the real one passes"
+noticed=$((${#wrong[@]} + ${#wrong_constants[@]} + ${#wrong_trays[@]} + ${#wrong_numbers[@]}))
+echo "compare-bites: passed: $noticed wrong libraries noticed, the real one passes"

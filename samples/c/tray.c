@@ -17,7 +17,7 @@ static void print_sample(uint32_t u, uint32_t y, const uint8_t *record)
     printf("%s %d\n", methods[record[VI_RECORD_METHOD]], (int)index_of(record));
 }
 
-static void put(uint32_t *tray, uint8_t number, uint32_t u, uint32_t y)
+static void put(uint32_t *tray, uint32_t number, uint32_t u, uint32_t y)
 {
     uint8_t record[VI_RECORD_SIZE];
     const uint32_t answer = vi_tray_put(tray, VI_TRAY_SIZE, number, u, y, record, sizeof record);
@@ -28,7 +28,7 @@ static void put(uint32_t *tray, uint8_t number, uint32_t u, uint32_t y)
         printf("refused %u\n", (unsigned)answer);
 }
 
-static void take(uint32_t *tray, uint8_t number)
+static void take(uint32_t *tray, uint32_t number)
 {
     uint32_t pair[VI_SAMPLE_PAIR_SIZE];
     uint8_t record[VI_RECORD_SIZE];
@@ -73,7 +73,7 @@ int main(void)
     print_summary(tray);
     put(tray, 12, 73300, 8860);
     put(tray, 7, 22830, 5050);
-    put(tray, 200, 144936, 16776);
+    put(tray, 104000200, 144936, 16776); /* a number has up to 32 bits */
     print_summary(tray);
 
     put(tray, 12, 53470, 7080); /* the number is held */
@@ -90,7 +90,7 @@ int main(void)
     print_summary(loaded);
     take(loaded, 7);
     take(loaded, 12);
-    take(loaded, 200);
+    take(loaded, 104000200);
     print_summary(loaded);
     return 0;
 }

@@ -1,8 +1,8 @@
 /*
  * Calls the library as firmware does: every question's number at its edge, buffers of no length, both orders of the blocks, gaps, 2,000
  * pairs, result blocks full of garbage, unaligned buffers, rows of every count that end where the memory ends, trays from empty to full and back,
- * stored, read-only and damaged. What a sheet or a tray should hold after a call is put together here from what it held before and from vi_pair's
- * records, and all of it is compared, with the bytes on either side of the buffer.
+ * with sample numbers over all 32 bits, stored, read-only and damaged. What a sheet or a tray should hold after a call is put together here from
+ * what it held before and from vi_pair's records, and all of it is compared, with the bytes on either side of the buffer.
  */
 #define _DEFAULT_SOURCE
 #include "viscosity_index.h"
@@ -399,7 +399,7 @@ static size_t place_of(int is_free, uint32_t number)
     return i;
 }
 
-static void put_is(uint8_t number, uint32_t u, uint32_t y, uint32_t wanted)
+static void put_is(uint32_t number, uint32_t u, uint32_t y, uint32_t wanted)
 {
     uint32_t before[VI_TRAY_SIZE];
     memcpy(before, held, sizeof held);
@@ -428,7 +428,7 @@ static void put_is(uint8_t number, uint32_t u, uint32_t y, uint32_t wanted)
 }
 
 /* the pair that comes out, which is asked of vi_pair anew */
-static void take_is(uint8_t number, uint32_t wanted)
+static void take_is(uint32_t number, uint32_t wanted)
 {
     uint32_t before[VI_TRAY_SIZE];
     memcpy(before, held, sizeof held);
@@ -490,7 +490,7 @@ static void tray_from_empty_to_full(void)
     put_is(0, 2000, 2000, VI_U_NOT_ABOVE_Y);
     put_is(1, UINT32_MAX, UINT32_MAX, VI_Y_ABOVE_MOST);
     for (unsigned i = 3; i < VI_TRAY_PLACES; i++)
-        put_is((uint8_t)(97 + i), 1000000000, 2000, VI_ANSWERED);
+        put_is(97 + i, 1000000000, 2000, VI_ANSWERED);
     summary_is(64, -62499500, 156, 247 - (int64_t)61 * 62499500, 63, 1, 0);
     put_is(1, 73300, 8860, VI_TRAY_FULL);
     put_is(0, 73300, 8860, VI_NUMBER_HELD);
@@ -502,7 +502,7 @@ static void tray_from_empty_to_full(void)
     put_is(1, 22830, 5050, VI_ANSWERED);
     put_is(255, 22830, 5050, VI_TRAY_FULL);
     for (unsigned i = 3; i < VI_TRAY_PLACES; i++)
-        take_is((uint8_t)(97 + i), VI_ANSWERED);
+        take_is(97 + i, VI_ANSWERED);
     summary_is(3, -1, 156, 247, 2, 1, 0);
     take_is(7, VI_ANSWERED);
     summary_is(2, 92, 156, 248, 1, 1, 0);
@@ -510,6 +510,39 @@ static void tray_from_empty_to_full(void)
     summary_is(1, 92, 92, 92, 1, 0, 0);
     take_is(0, VI_ANSWERED);
     summary_is(0, 0, 0, 0, 0, 0, 0);
+}
+
+/* six numbers, each alone, where none of the others is held, and all held, each with a pair of its own; then 64 that begin with one number and go on by one
+   step: with the same lowest bytes, of nine digits, over the whole range */
+static void tray_numbers(void)
+{
+    static const uint32_t numbers[] = {0, 1, 257, 65537, 16777217, UINT32_MAX};
+    static const uint32_t steps[][2] = {{1, 256}, {1, 65536}, {1, 16777216}, {104000200, 13000007}, {0, UINT32_MAX / 63}};
+    const unsigned count = sizeof numbers / sizeof *numbers;
+    memset(held, 0, sizeof held);
+    for (unsigned i = 0; i < count; i++) {
+        put_is(numbers[i], 73300, 8860, VI_ANSWERED);
+        for (unsigned j = 0; j < count; j++)
+            if (j != i)
+                take_is(numbers[j], VI_NUMBER_NOT_HELD);
+        put_is(numbers[i], 22830, 5050, VI_NUMBER_HELD);
+        take_is(numbers[i], VI_ANSWERED);
+        take_is(numbers[i], VI_NUMBER_NOT_HELD);
+    }
+    for (unsigned i = 0; i < count; i++)
+        put_is(numbers[i], 73300 + i, 8860, VI_ANSWERED);
+    for (unsigned i = 0; i < count; i++)
+        put_is(numbers[i], 22830, 5050, VI_NUMBER_HELD);
+    for (unsigned i = 0; i < count; i++)
+        take_is(numbers[i], VI_ANSWERED);
+    for (unsigned s = 0; s < sizeof steps / sizeof *steps; s++) {
+        for (unsigned i = 0; i < VI_TRAY_PLACES; i++)
+            put_is(steps[s][0] + steps[s][1] * i, 73300 + i, 8860, VI_ANSWERED);
+        put_is(steps[s][0] + steps[s][1] * VI_TRAY_PLACES, 73300, 8860, VI_TRAY_FULL);
+        take_is(steps[s][0] + steps[s][1] * VI_TRAY_PLACES, VI_NUMBER_NOT_HELD);
+        for (unsigned i = VI_TRAY_PLACES; i > 0; i--)
+            take_is(steps[s][0] + steps[s][1] * (i - 1), VI_ANSWERED);
+    }
 }
 
 /* a tray may be stored, and its summary taken where it cannot be written */
@@ -582,7 +615,7 @@ static void tray_sizes(void)
 }
 
 /* the numbers in `held` are any: each call answers, and changes what the header says */
-static void any_tray(uint8_t number)
+static void any_tray(uint32_t number)
 {
     int64_t count = 0;
     for (size_t i = 0; i < VI_TRAY_PLACES; i++)
@@ -626,11 +659,11 @@ static void damaged_trays(void)
             memset(held, i % 8 == 2 ? 0xFF : (int)(any() % 256), sizeof held);
         if (i % 4 == 3) { /* one sample, and one number changed */
             memset(held, 0, sizeof held);
-            put_is((uint8_t)i, 22830, 5050, VI_ANSWERED);
+            put_is(i % 8 == 3 ? i : any(), 22830, 5050, VI_ANSWERED);
             held[any() % VI_PLACE_SIZE] = any() % 2 ? any() : any() % 4;
         }
         for (unsigned j = 0; j < 4; j++)
-            any_tray((uint8_t)(j % 2 ? held[VI_PLACE_SIZE * (any() % VI_TRAY_PLACES) + VI_PLACE_NUMBER] : any()));
+            any_tray(j % 2 ? held[VI_PLACE_SIZE * (any() % VI_TRAY_PLACES) + VI_PLACE_NUMBER] : any() >> 12 * j); /* of 32 bits, or of 8 */
     }
 }
 
@@ -651,6 +684,7 @@ int main(void)
     row_counts(vi_constant_100);
     make_pages();
     tray_from_empty_to_full();
+    tray_numbers();
     tray_stored();
     tray_sizes();
     damaged_trays();

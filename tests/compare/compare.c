@@ -83,6 +83,15 @@ static void print_trays(void)
         tally.sum_least, tally.sum_greatest);
 }
 
+static void print_numbers(void)
+{
+    printf("numbers of samples above 255: %" PRIu64 ", above 65,535: %" PRIu64 ", above 2,147,483,647: %" PRIu64
+        ", 0: %" PRIu64 ", 4,294,967,295: %" PRIu64, tally.above_one_byte, tally.above_two_bytes, tally.above_31_bits,
+        tally.number_0, tally.number_greatest);
+    printf("; not held, but one that is has the same lowest byte: %" PRIu64 ", the same 16 bits: %" PRIu64
+        ", the same 24 bits: %" PRIu64 "\n", tally.alike[1], tally.alike[2], tally.alike[3]);
+}
+
 int main(int argc, char **argv)
 {
     if (!options_known(argc, argv)) {
@@ -103,6 +112,7 @@ int main(int argc, char **argv)
     print_tally();
     print_constants();
     print_trays();
+    print_numbers();
     printf("compare: passed: %" PRIu64 " pairs, %" PRIu64 " sheets, %" PRIu64 " constants and %" PRIu64
         " calls with trays agree", tally.pairs, tally.sheets, tally.constants, tally.tray_calls);
     printf(", seed %" PRIu64 ", %ld s\n", seed, (long)(time(NULL) - start));

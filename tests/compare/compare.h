@@ -23,7 +23,7 @@ int64_t random_log(int64_t low, int64_t high);
 void now_pair(uint32_t u, uint32_t y);
 void now_sheet(uint64_t which, const uint8_t *bytes, size_t length);
 void now_constant(int degrees, uint32_t viscosity, uint32_t density, const int32_t *row);
-void now_tray(const char *call, uint8_t number, int held, uint64_t list);
+void now_tray(const char *call, uint32_t number, int held, uint64_t list);
 _Noreturn void fail(const char *what, const uint8_t *record);
 void progress(const char *name, uint64_t done, uint64_t of);
 
@@ -42,6 +42,10 @@ struct tally {
     /* a pair refused with its number held, with 64 held; 31 with 64 held */
     uint64_t pair_before_held, pair_before_full, held_before_full;
     int64_t sum_least, sum_greatest;
+    /* by the numbers of samples: 0, 4,294,967,295, above 255, above 65,535, above
+       2,147,483,647; not held, though one that is held has the same lowest bytes,
+       so many of them */
+    uint64_t number_0, number_greatest, above_one_byte, above_two_bytes, above_31_bits, alike[4];
 };
 extern struct tally tally;
 

@@ -55,7 +55,7 @@ static int now_degrees;
 static uint32_t now_viscosity, now_density;
 static const int32_t *now_row;
 static const char *now_call;
-static uint8_t now_number;
+static uint32_t now_number;
 static int now_held;
 static uint64_t now_list;
 
@@ -80,7 +80,7 @@ void now_constant(int degrees, uint32_t viscosity, uint32_t density, const int32
     now_row = row;
 }
 
-void now_tray(const char *call, uint8_t number, int held, uint64_t list)
+void now_tray(const char *call, uint32_t number, int held, uint64_t list)
 {
     now_call = call;
     now_number = number;
@@ -117,7 +117,7 @@ _Noreturn void fail(const char *what, const uint8_t *record)
     if (record != NULL)
         print_bytes("record", record, RECORD);
     if (now_call != NULL)
-        printf("  tray: %s, number %u, %d held, list %" PRIu64 "\n", now_call, now_number, now_held, now_list);
+        printf("  tray: %s, number %" PRIu32 ", %d held, list %" PRIu64 "\n", now_call, now_number, now_held, now_list);
     if (now_bytes != NULL) {
         printf("  sheet %" PRIu64 " of %zu bytes\n", now_which, now_length);
         print_bytes("sheet's first bytes", now_bytes, now_length < 64 ? now_length : 64);

@@ -1,7 +1,7 @@
 /* The C calls, declared here again so that nothing of the library's own header is
-   included: from document 01 and change request #101, and those of the tray (#102)
-   from what the header says. How a tray is laid out the header alone says; tray.h
-   has it again. */
+   included: from document 01 and change request #101, and those of the tray (#102,
+   and #104 for the numbers of samples) from what the header says. How a tray is
+   laid out the header alone says; tray.h has it again. */
 #ifndef LIBRARY_H
 #define LIBRARY_H
 
@@ -25,9 +25,9 @@ uint32_t vi_constant_100(uint32_t viscosity, uint32_t density, int32_t *row, siz
    31 or 32 if refused. Take answers 0 with u and y and the record; 33 if refused.
    The summary answers 0 with a row of seven. All answer 5 unless each count is the
    right one; a refused call leaves everything. */
-uint32_t vi_tray_put(uint32_t *tray, size_t tray_count, uint8_t number, uint32_t u, uint32_t y,
+uint32_t vi_tray_put(uint32_t *tray, size_t tray_count, uint32_t number, uint32_t u, uint32_t y,
     uint8_t *record, size_t length);
-uint32_t vi_tray_take(uint32_t *tray, size_t tray_count, uint8_t number, uint32_t *pair, size_t pair_count,
+uint32_t vi_tray_take(uint32_t *tray, size_t tray_count, uint32_t number, uint32_t *pair, size_t pair_count,
     uint8_t *record, size_t length);
 uint32_t vi_tray_summary(const uint32_t *tray, size_t tray_count, int64_t *row, size_t row_count);
 

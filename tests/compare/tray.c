@@ -14,43 +14,75 @@ static void add(struct summary *s, enum method method, int64_t index)
     s->near += method == B_NEAR;
 }
 
-/* ---- the request's tray ---- */
+/* ---- the requests' tray ---- */
 
-uint32_t put_question(const struct tray *t, uint8_t number, uint32_t u, uint32_t y)
+/* How many of the numbers held are less than this one: where it is, or would be. */
+static int less_than(const struct tray *t, uint32_t number)
+{
+    int low = 0, high = t->count;
+    while (low < high) {
+        int middle = (low + high) / 2;
+        if (t->number[middle] < number)
+            low = middle + 1;
+        else
+            high = middle;
+    }
+    return low;
+}
+
+static bool is_at(const struct tray *t, int at, uint32_t number)
+{
+    return at < t->count && t->number[at] == number;
+}
+
+static bool holds(const struct tray *t, uint32_t number)
+{
+    return is_at(t, less_than(t, number), number);
+}
+
+uint32_t put_question(const struct tray *t, uint32_t number, uint32_t u, uint32_t y)
 {
     uint32_t of_the_pair = question(u, y);
     if (of_the_pair != 0)
         return of_the_pair;
-    if (t->held[number])
+    if (holds(t, number))
         return NUMBER_HELD;
     return t->count == HELD_GREATEST ? TRAY_FULL : 0;
 }
 
-uint32_t take_question(const struct tray *t, uint8_t number)
+uint32_t take_question(const struct tray *t, uint32_t number)
 {
-    return t->held[number] ? 0 : NOT_HELD;
+    return holds(t, number) ? 0 : NOT_HELD;
 }
 
-void put_sample(struct tray *t, uint8_t number, const struct sample *s)
+void put_sample(struct tray *t, uint32_t number, const struct sample *s)
 {
-    t->held[number] = true;
-    t->samples[number] = *s;
-    t->count++;
+    int at = less_than(t, number);
+    for (int i = t->count++; i > at; i--) {
+        t->number[i] = t->number[i - 1];
+        t->samples[i] = t->samples[i - 1];
+    }
+    t->number[at] = number;
+    t->samples[at] = *s;
 }
 
-struct sample take_sample(struct tray *t, uint8_t number)
+struct sample take_sample(struct tray *t, uint32_t number)
 {
-    t->held[number] = false;
+    int at = less_than(t, number);
+    struct sample s = t->samples[at];
     t->count--;
-    return t->samples[number];
+    for (int i = at; i < t->count; i++) {
+        t->number[i] = t->number[i + 1];
+        t->samples[i] = t->samples[i + 1];
+    }
+    return s;
 }
 
 struct summary summary_of(const struct tray *t)
 {
     struct summary s = { 0 };
-    for (int i = 0; i < NUMBERS; i++)
-        if (t->held[i])
-            add(&s, t->samples[i].r.method, t->samples[i].r.index);
+    for (int i = 0; i < t->count; i++)
+        add(&s, t->samples[i].r.method, t->samples[i].r.index);
     return s;
 }
 
@@ -63,7 +95,7 @@ static enum method method_of(const uint32_t *place)
 }
 
 /* The first place that is free, or the first that holds this number; PLACES if
-   there is none. A number above 255 in a place is no number of a call. */
+   there is none. */
 static int first_free(const uint32_t *numbers)
 {
     int i = 0;
@@ -72,7 +104,7 @@ static int first_free(const uint32_t *numbers)
     return i;
 }
 
-static int first_with(const uint32_t *numbers, uint8_t number)
+static int first_with(const uint32_t *numbers, uint32_t number)
 {
     int i = 0;
     while (i < PLACES && (numbers[PLACE * i + AT_METHOD] == 0 || numbers[PLACE * i + AT_NUMBER] != number))
@@ -80,7 +112,7 @@ static int first_with(const uint32_t *numbers, uint8_t number)
     return i;
 }
 
-uint32_t places_put_question(const uint32_t *numbers, uint8_t number, uint32_t u, uint32_t y)
+uint32_t places_put_question(const uint32_t *numbers, uint32_t number, uint32_t u, uint32_t y)
 {
     uint32_t of_the_pair = question(u, y);
     if (of_the_pair != 0)
@@ -90,12 +122,12 @@ uint32_t places_put_question(const uint32_t *numbers, uint8_t number, uint32_t u
     return first_free(numbers) == PLACES ? TRAY_FULL : 0;
 }
 
-uint32_t places_take_question(const uint32_t *numbers, uint8_t number)
+uint32_t places_take_question(const uint32_t *numbers, uint32_t number)
 {
     return first_with(numbers, number) < PLACES ? 0 : NOT_HELD;
 }
 
-void places_put(uint32_t *numbers, uint8_t number, const struct sample *s)
+void places_put(uint32_t *numbers, uint32_t number, const struct sample *s)
 {
     uint32_t *place = numbers + PLACE * first_free(numbers);
     place[AT_METHOD] = s->r.method;
@@ -119,7 +151,7 @@ static struct sample sample_at(const uint32_t *place)
     return s;
 }
 
-struct sample places_take(uint32_t *numbers, uint8_t number)
+struct sample places_take(uint32_t *numbers, uint32_t number)
 {
     uint32_t *place = numbers + PLACE * first_with(numbers, number);
     struct sample s = sample_at(place);
@@ -149,23 +181,23 @@ int places_held(const uint32_t *numbers)
 
 const char *tray_fault(const struct tray *t, const uint32_t *numbers)
 {
-    bool seen[NUMBERS] = { false };
+    bool seen[HELD_GREATEST] = { false };
     int count = 0;
     for (const uint32_t *place = numbers; place < numbers + TRAY; place += PLACE) {
         if (place[AT_METHOD] == 0)
             continue;
-        uint32_t number = place[AT_NUMBER];
-        if (number >= NUMBERS || !t->held[number])
+        int at = less_than(t, place[AT_NUMBER]);
+        if (!is_at(t, at, place[AT_NUMBER]))
             return "a sample is held that was not put in, or was taken out";
-        if (seen[number])
+        if (seen[at])
             return "two samples are held under one number";
-        const struct sample *s = &t->samples[number];
+        const struct sample *s = &t->samples[at];
         if (place[AT_U] != s->u || place[AT_Y] != s->y)
             return "the pair of a sample held";
         if (place[AT_METHOD] != s->r.method || place[AT_INDEX] != (uint32_t)s->r.index ||
             place[AT_LOWER] != s->r.p || place[AT_UPPER] != s->r.P)
             return "the answer of a sample held";
-        seen[number] = true;
+        seen[at] = true;
         count++;
     }
     return count == t->count ? NULL : "a sample that was put in is not held";

@@ -1,9 +1,9 @@
-/* The tray of change request #102, written again for comparison, twice.
+/* The tray of change requests #102 and #104, written again for comparison, twice.
 
-   `struct tray` is the tray of the request: what is held under each number that a
-   byte can be. It has no places and no order. The other is the tray of the
-   library's header, 512 numbers in 64 places; any numbers are such a tray, so
-   that it also says what becomes of a damaged one. Neither shares anything with
+   `struct tray` is the tray of the requests: the samples held and their numbers,
+   from the least number to the greatest. It has no places. The other is the tray
+   of the library's header, 512 numbers in 64 places; any numbers are such a tray,
+   so that it also says what becomes of a damaged one. Neither shares anything with
    the library. */
 #ifndef TRAY_H
 #define TRAY_H
@@ -11,7 +11,7 @@
 #include "oil.h"
 
 enum {
-    NUMBERS = 256,              /* "a number of one byte" */
+    ONE_BYTE = 256,             /* the numbers there were before #104 */
     HELD_GREATEST = 64,         /* "A tray holds up to 64 samples" */
     NUMBER_HELD = 31, TRAY_FULL = 32, NOT_HELD = 33,
     SAMPLE_PAIR = 2,            /* numbers: u and y */
@@ -29,21 +29,22 @@ struct summary {
     int64_t held, lowest, highest, sum, a, settled, near;
 };
 
-/* ---- the request's tray ---- */
+/* ---- the requests' tray ---- */
 
+/* "The tray takes numbers up to 4,294,967,295": all that 32 bits can be. */
 struct tray {
     int count;
-    bool held[NUMBERS];
-    struct sample samples[NUMBERS];
+    uint32_t number[HELD_GREATEST];
+    struct sample samples[HELD_GREATEST];
 };
 
 /* The number of the first question that the call fails, 0 if none. */
-uint32_t put_question(const struct tray *t, uint8_t number, uint32_t u, uint32_t y);
-uint32_t take_question(const struct tray *t, uint8_t number);
+uint32_t put_question(const struct tray *t, uint32_t number, uint32_t u, uint32_t y);
+uint32_t take_question(const struct tray *t, uint32_t number);
 
 /* Of calls that pass their questions. */
-void put_sample(struct tray *t, uint8_t number, const struct sample *s);
-struct sample take_sample(struct tray *t, uint8_t number);
+void put_sample(struct tray *t, uint32_t number, const struct sample *s);
+struct sample take_sample(struct tray *t, uint32_t number);
 struct summary summary_of(const struct tray *t);
 
 /* ---- the header's tray ---- */
@@ -52,10 +53,10 @@ enum { PLACES = 64, PLACE = 8, TRAY = PLACES * PLACE };
 enum { AT_METHOD, AT_NUMBER, AT_U, AT_Y, AT_INDEX, AT_LOWER, AT_UPPER, AT_REST };
 
 /* The same of the 512 numbers, whatever they are. */
-uint32_t places_put_question(const uint32_t *numbers, uint8_t number, uint32_t u, uint32_t y);
-uint32_t places_take_question(const uint32_t *numbers, uint8_t number);
-void places_put(uint32_t *numbers, uint8_t number, const struct sample *s);
-struct sample places_take(uint32_t *numbers, uint8_t number);
+uint32_t places_put_question(const uint32_t *numbers, uint32_t number, uint32_t u, uint32_t y);
+uint32_t places_take_question(const uint32_t *numbers, uint32_t number);
+void places_put(uint32_t *numbers, uint32_t number, const struct sample *s);
+struct sample places_take(uint32_t *numbers, uint32_t number);
 struct summary places_summary(const uint32_t *numbers);
 int places_held(const uint32_t *numbers);
 

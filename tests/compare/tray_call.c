@@ -161,9 +161,35 @@ static void check_tray(struct tested *t, const struct call *c, uint32_t number)
     check_lent(&tray_lent, "its numbers are not as the header has them");
 }
 
-/* ---- the call ---- */
+/* ---- what is met ---- */
 
-static void count(const struct tested *t, const struct call *c, uint32_t number, uint8_t method, bool held, bool full)
+/* How many of the number's four bytes, from the lowest on, are also those of a
+   number that is held: 4 if it is held itself. */
+static int bytes_alike(const uint32_t *numbers, uint32_t number)
+{
+    int most = 0;
+    for (const uint32_t *place = numbers; place < numbers + TRAY; place += PLACE) {
+        uint32_t differs = place[AT_NUMBER] ^ number;
+        int alike = differs == 0 ? 4 : __builtin_ctz(differs) / 8;
+        if (place[AT_METHOD] != 0 && alike > most)
+            most = alike;
+    }
+    return most;
+}
+
+/* Of calls that got as far as their number. */
+static void count_number(uint32_t number, int alike)
+{
+    tally.number_0 += number == 0;
+    tally.number_greatest += number == UINT32_MAX;
+    tally.above_one_byte += number > UINT8_MAX;
+    tally.above_two_bytes += number > UINT16_MAX;
+    tally.above_31_bits += number > INT32_MAX;
+    for (int bytes = 1; bytes < 4; bytes++)
+        tally.alike[bytes] += alike < 4 && alike >= bytes;
+}
+
+static void count(const struct tested *t, const struct call *c, uint32_t number, uint8_t method, int alike, bool full)
 {
     tally.tray_calls++;
     tally.tray_refused[number]++;
@@ -171,10 +197,14 @@ static void count(const struct tested *t, const struct call *c, uint32_t number,
     tally.put_in[method] += number == 0 && c->kind == PUT;
     tally.taken_out += number == 0 && c->kind == TAKE;
     bool of_the_pair = number >= 1 && number <= 4;
-    tally.pair_before_held += of_the_pair && held;
+    tally.pair_before_held += of_the_pair && alike == 4;
     tally.pair_before_full += of_the_pair && full;
     tally.held_before_full += number == NUMBER_HELD && full;
+    if (c->kind != SUMMARY && (number == 0 || number >= NUMBER_HELD))
+        count_number(c->number, alike);
 }
+
+/* ---- the call ---- */
 
 void make_call(struct tested *t, const struct call *c)
 {
@@ -182,8 +212,7 @@ void make_call(struct tested *t, const struct call *c)
     struct record answer = { 0 };
     if (c->kind == PUT)
         answer = check_pair(c->u, c->y);
-    bool held = places_take_question(t->numbers, c->number) == 0;
-    int filled = places_held(t->numbers);
+    int alike = bytes_alike(t->numbers, c->number), filled = places_held(t->numbers);
     now_pair(c->u, c->y);
     now_tray(names[c->kind], c->number, filled, tally.tray_lists);
     uint32_t number = wanted_number(t, c);
@@ -197,15 +226,15 @@ void make_call(struct tested *t, const struct call *c)
     check_lent(&pair_lent, what);
     check_lent(&row_lent, what);
     check_tray(t, c, number);
-    count(t, c, number, answer.method, held, filled == HELD_GREATEST);
+    count(t, c, number, answer.method, alike, filled == HELD_GREATEST);
 }
 
-void put(struct tested *t, uint8_t number, uint32_t u, uint32_t y)
+void put(struct tested *t, uint32_t number, uint32_t u, uint32_t y)
 {
     make_call(t, &(struct call){ PUT, number, u, y, right_sizes });
 }
 
-void take(struct tested *t, uint8_t number)
+void take(struct tested *t, uint32_t number)
 {
     make_call(t, &(struct call){ TAKE, number, 0, 0, right_sizes });
 }

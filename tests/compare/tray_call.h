@@ -23,7 +23,7 @@ extern const struct sizes right_sizes;
 
 struct call {
     enum kind kind;
-    uint8_t number;
+    uint32_t number;
     uint32_t u, y;
     struct sizes sizes;
 };
@@ -35,8 +35,8 @@ void move_tray(void);
 
 void make_call(struct tested *t, const struct call *c);
 /* The same with the right sizes. */
-void put(struct tested *t, uint8_t number, uint32_t u, uint32_t y);
-void take(struct tested *t, uint8_t number);
+void put(struct tested *t, uint32_t number, uint32_t u, uint32_t y);
+void take(struct tested *t, uint32_t number);
 void summary(struct tested *t);
 /* The row that the last call left. */
 const int64_t *last_row(void);

@@ -1,7 +1,7 @@
 /* The trays: lists of calls of every kind from an empty tray, and calls with
    damaged ones. tray_call.c compares each call. */
 #include "compare.h"
-#include "tray_call.h"
+#include "tray_numbers.h"
 
 #include <stdio.h>
 #include <stdlib.h>
@@ -10,35 +10,30 @@
 /* A tray, and how the calls with it are drawn. */
 struct list {
     struct tested t;
-    int base, step, spread;     /* the numbers: base + step * i, i below spread */
+    struct numbers numbers;
     int pairs;                  /* the kind of pairs */
     uint32_t own_u, own_y;
 };
 
 /* ---- numbers and pairs ---- */
 
-static bool is_held(const struct list *l, uint8_t number)
+static bool is_held(const struct list *l, uint32_t number)
 {
-    return l->t.damaged ? places_take_question(l->t.numbers, number) == 0 : l->t.model.held[number];
+    return (l->t.damaged ? places_take_question(l->t.numbers, number) : take_question(&l->t.model, number)) == 0;
 }
 
-static uint8_t number_at(const struct list *l, int64_t i)
+static uint32_t any_number(const struct list *l)
 {
-    return (uint8_t)(l->base + l->step * (i % l->spread));
-}
-
-static uint8_t any_number(const struct list *l)
-{
-    return number_at(l, random_in(0, l->spread - 1));
+    return number_at(&l->numbers, random_in(0, l->numbers.spread - 1));
 }
 
 /* One that is held, or one that is not; any, if there is no such number. */
-static uint8_t number_that_is(const struct list *l, bool held)
+static uint32_t number_that_is(const struct list *l, bool held)
 {
-    int64_t first = random_in(0, l->spread - 1);
-    for (int i = 0; i < l->spread; i++)
-        if (is_held(l, number_at(l, first + i)) == held)
-            return number_at(l, first + i);
+    int64_t first = random_in(0, l->numbers.spread - 1);
+    for (int i = 0; i < l->numbers.spread; i++)
+        if (is_held(l, number_at(&l->numbers, first + i)) == held)
+            return number_at(&l->numbers, first + i);
     return any_number(l);
 }
 
@@ -108,7 +103,7 @@ static void pick_for(const struct list *l, uint32_t *u, uint32_t *y)
 
 /* ---- calls of every kind ---- */
 
-static void put_any(struct list *l, uint8_t number)
+static void put_any(struct list *l, uint32_t number)
 {
     uint32_t u, y;
     pick_for(l, &u, &y);
@@ -169,11 +164,8 @@ static void any_call(struct list *l)
 
 static void begin_list(struct list *l)
 {
-    static const int spreads[] = { 1, 2, 3, 8, 63, 64, 65, 66, 100, 200, 256, 256, 256, 256, 256, 256 };
     memset(l, 0, sizeof *l);
-    l->base = (int)random_in(0, 255);
-    l->step = 2 * (int)random_in(0, 127) + 1;
-    l->spread = spreads[random_in(0, 15)];
+    pick_numbers(&l->numbers);
     l->pairs = (int)random_in(0, PAIR_KINDS - 1);
     pick_of(random64() & 1 ? OILS : BESIDE_A_HALF, &l->own_u, &l->own_y);
     move_tray();
@@ -199,7 +191,7 @@ static void go_to(struct list *l, int level)
 static int pick_level(const struct list *l)
 {
     static const int levels[] = { 0, 0, 1, 2, 63, 64, 64, 64 };
-    int most = l->spread < HELD_GREATEST ? l->spread : HELD_GREATEST;
+    int most = l->numbers.spread < HELD_GREATEST ? l->numbers.spread : HELD_GREATEST;
     int64_t kind = random_in(0, 11);
     int level = kind < 8 ? levels[kind] : (int)random_in(0, most);
     return level < most ? level : most;
@@ -248,16 +240,16 @@ static void random_list(void)
 
 static uint32_t edge(void)
 {
-    static const uint32_t edges[] = { 0, 0, 1, 2, 3, 4, 255, 256, 257, 511, 0x7fffffff, 0x80000000u, 0xffffff00u,
-        0xffffffffu };
-    int64_t which = random_in(0, 15);
-    return which < 14 ? edges[which] : (uint32_t)random64();
+    static const uint32_t edges[] = { 0, 0, 1, 2, 3, 4, 255, 256, 257, 511, 65535, 65536, 65537, 16777217, 0x7fffffff,
+        0x80000000u, 0xffffff00u, 0xffffffffu };
+    int64_t which = random_in(0, 19);
+    return which < 18 ? edges[which] : (uint32_t)random64();
 }
 
 /* A tray that calls have led to. */
 static void fill_well(struct list *l)
 {
-    l->spread = NUMBERS;
+    l->numbers.spread = SPREAD_GREATEST;
     go_to(l, (int)random_in(0, HELD_GREATEST));
 }
 
@@ -277,7 +269,7 @@ static void damage(struct list *l)
             l->t.numbers[i] = same;
             break;
         case 5:                 /* every part at its edges; numbers twice */
-            l->t.numbers[i] = i % PLACE == AT_NUMBER ? (uint32_t)random_in(0, 300) : edge();
+            l->t.numbers[i] = i % PLACE == AT_NUMBER && random_in(0, 7) != 0 ? any_number(l) : edge();
             break;
         case 6:                 /* all free, whatever else they hold */
             l->t.numbers[i] = i % PLACE == AT_METHOD ? 0 : edge();
@@ -291,10 +283,10 @@ static void damage(struct list *l)
 }
 
 /* Half of the numbers asked for are those of places. */
-static uint8_t number_of_damaged(const struct list *l)
+static uint32_t number_of_damaged(const struct list *l)
 {
     if (random64() & 1)
-        return (uint8_t)l->t.numbers[PLACE * random_in(0, PLACES - 1) + AT_NUMBER];
+        return l->t.numbers[PLACE * random_in(0, PLACES - 1) + AT_NUMBER];
     return any_number(l);
 }
 
@@ -304,7 +296,7 @@ static void damaged_list(void)
     begin_list(&l);
     damage(&l);
     l.t.damaged = true;
-    l.spread = NUMBERS;
+    l.numbers.spread = SPREAD_GREATEST;
     l.t.in_place = random64() & 1;
     move_tray();
     summary(&l.t);
@@ -347,10 +339,10 @@ static void equal_indices(void)
     static struct list l;
     begin_list(&l);
     static const struct { uint32_t u, y; } oils[] = { { 8018, 2000 }, { 73300, 8860 }, { 22830, 5050 } };
-    for (uint8_t number = 0; number < 9; number++)
+    for (uint32_t number = 0; number < 9; number++)
         put(&l.t, number, oils[number % 3].u, oils[number % 3].y);
-    static const uint8_t order[] = { 3, 5, 0, 8, 6, 2, 7, 1, 4 };
-    for (size_t i = 0; i < sizeof order; i++) {
+    static const uint32_t order[] = { 3, 5, 0, 8, 6, 2, 7, 1, 4 };
+    for (size_t i = 0; i < sizeof order / sizeof *order; i++) {
         summary(&l.t);
         take(&l.t, order[i]);
     }
@@ -363,7 +355,7 @@ static void greatest_sum(void)
     static struct list l;
     begin_list(&l);
     for (int i = 0; i < HELD_GREATEST; i++) {
-        put(&l.t, (uint8_t)(3 * i), 1000000000, 2000);
+        put(&l.t, 3 * (uint32_t)i, 1000000000, 2000);
         summary(&l.t);
     }
 }
@@ -374,7 +366,7 @@ static void every_question(struct list *l)
 {
     summary(&l->t);
     for (int held = 0; held <= 1; held++) {
-        uint8_t number = number_that_is(l, held);
+        uint32_t number = number_that_is(l, held);
         for (int i = 1; i <= 4; i++) {
             uint32_t u, y;
             pick_refused(i, &u, &y);
@@ -393,7 +385,7 @@ static void every_fill(void)
     static struct list l;
     for (int times = 0; times < 4; times++) {
         begin_list(&l);
-        l.spread = NUMBERS;
+        l.numbers.spread = SPREAD_GREATEST;
         for (int held = 0; held < HELD_GREATEST; held++) {
             every_question(&l);
             uint32_t u, y;
@@ -408,26 +400,26 @@ static void every_fill(void)
     }
 }
 
-/* Each number alone, beside its neighbours, and 64 at a time. */
+/* Each number of one byte alone, beside its neighbours, and 64 at a time. */
 static void every_number(void)
 {
     static struct list l;
     begin_list(&l);
-    for (int number = 0; number < NUMBERS; number++) {
-        put(&l.t, (uint8_t)number, 22830, 5050);
-        take(&l.t, (uint8_t)(number - 1));
-        take(&l.t, (uint8_t)(number + 1));
-        put(&l.t, (uint8_t)number, 73300, 8860);
-        take(&l.t, (uint8_t)number);
-        take(&l.t, (uint8_t)number);
+    for (uint32_t number = 0; number < ONE_BYTE; number++) {
+        put(&l.t, number, 22830, 5050);
+        take(&l.t, number - 1);
+        take(&l.t, number + 1);
+        put(&l.t, number, 73300, 8860);
+        take(&l.t, number);
+        take(&l.t, number);
     }
-    for (int first = 0; first < NUMBERS; first += HELD_GREATEST) {
-        for (int i = 0; i < HELD_GREATEST; i++)
-            put(&l.t, (uint8_t)(first + i), 73300 + (uint32_t)i, 8860);
-        for (int number = 0; number < NUMBERS; number++)
-            put(&l.t, (uint8_t)number, 22830, 5050);
-        for (int number = NUMBERS - 1; number >= 0; number--)
-            take(&l.t, (uint8_t)number);
+    for (uint32_t first = 0; first < ONE_BYTE; first += HELD_GREATEST) {
+        for (uint32_t i = 0; i < HELD_GREATEST; i++)
+            put(&l.t, first + i, 73300 + i, 8860);
+        for (uint32_t number = 0; number < ONE_BYTE; number++)
+            put(&l.t, number, 22830, 5050);
+        for (uint32_t number = ONE_BYTE; number > 0; number--)
+            take(&l.t, number - 1);
     }
 }
 
@@ -445,7 +437,7 @@ static void every_size(int level)
 {
     static struct list l;
     begin_list(&l);
-    l.spread = NUMBERS;
+    l.numbers.spread = SPREAD_GREATEST;
     go_to(&l, level);
     /* 2,048 is the count of bytes. */
     static const size_t counts[] = { 0, 1, 7, 8, 9, 63, 64, 65, 255, 256, 504, 510, 511, 513, 514, 520, 1024, 2048 };
@@ -470,6 +462,7 @@ void compare_trays(uint64_t wanted)
     greatest_sum();
     every_fill();
     every_number();
+    compare_numbers();
     every_size(0);
     every_size(7);
     every_size(HELD_GREATEST);

@@ -1,23 +1,13 @@
 /* Trays that are wrong on purpose, put before the library as those of wrong.c are;
    -DWRONG=n chooses the fault. The comparison must notice each one. With the last
    number pair and tray are right but give other fractions, and must pass. */
-#include "library.h"
 #include "tray.h"
+#include "wrapped_trays.h"
 
 #include <string.h>
 
 uint32_t __real_vi_pair(uint32_t u, uint32_t y, uint8_t *record, size_t length);
 uint32_t __wrap_vi_pair(uint32_t u, uint32_t y, uint8_t *record, size_t length);
-uint32_t __real_vi_tray_put(uint32_t *tray, size_t tray_count, uint8_t number, uint32_t u, uint32_t y,
-    uint8_t *record, size_t length);
-uint32_t __wrap_vi_tray_put(uint32_t *tray, size_t tray_count, uint8_t number, uint32_t u, uint32_t y,
-    uint8_t *record, size_t length);
-uint32_t __real_vi_tray_take(uint32_t *tray, size_t tray_count, uint8_t number, uint32_t *pair, size_t pair_count,
-    uint8_t *record, size_t length);
-uint32_t __wrap_vi_tray_take(uint32_t *tray, size_t tray_count, uint8_t number, uint32_t *pair, size_t pair_count,
-    uint8_t *record, size_t length);
-uint32_t __real_vi_tray_summary(const uint32_t *tray, size_t tray_count, int64_t *row, size_t row_count);
-uint32_t __wrap_vi_tray_summary(const uint32_t *tray, size_t tray_count, int64_t *row, size_t row_count);
 
 enum {
     /* put */
@@ -89,7 +79,7 @@ uint32_t __wrap_vi_pair(uint32_t u, uint32_t y, uint8_t *record, size_t length)
 static uint64_t remembered;     /* how many are held, whatever tray it is */
 
 /* A number that is answered without the library; 0 if none is. */
-static uint32_t asked_wrongly(const uint32_t *tray, uint8_t number, uint32_t u, uint32_t y)
+static uint32_t asked_wrongly(const uint32_t *tray, uint32_t number, uint32_t u, uint32_t y)
 {
     bool held = place_with(tray, number) < PLACES, full = free_place(tray) == PLACES;
     if (WRONG == HELD_FIRST && held)
@@ -108,7 +98,7 @@ static uint32_t asked_wrongly(const uint32_t *tray, uint8_t number, uint32_t u, 
 }
 
 /* Lets a refused put in after all: a place is made free for it. */
-static uint32_t let_in(uint32_t number_answered, uint32_t *tray, uint8_t number, uint32_t u, uint32_t y,
+static uint32_t let_in(uint32_t number_answered, uint32_t *tray, uint32_t number, uint32_t u, uint32_t y,
     uint8_t *record)
 {
     int held = place_with(tray, number);
@@ -117,7 +107,7 @@ static uint32_t let_in(uint32_t number_answered, uint32_t *tray, uint8_t number,
     else if (WRONG == OVERWRITES_LAST && number_answered == TRAY_FULL)
         place_of(tray, PLACES - 1)[AT_METHOD] = 0;
     else if (WRONG == HELD_TWICE && number_answered == NUMBER_HELD && free_place(tray) < PLACES)
-        place_of(tray, held)[AT_NUMBER] = UINT32_MAX;
+        place_of(tray, held)[AT_NUMBER] = ~number;
     else
         return number_answered;
     uint32_t answer = __real_vi_tray_put(tray, TRAY, number, u, y, record, RECORD);
@@ -126,7 +116,7 @@ static uint32_t let_in(uint32_t number_answered, uint32_t *tray, uint8_t number,
     return answer;
 }
 
-static void spoil_refused_put(uint32_t answer, uint32_t *tray, uint8_t number, uint32_t u, uint32_t y,
+static void spoil_refused_put(uint32_t answer, uint32_t *tray, uint32_t number, uint32_t u, uint32_t y,
     uint8_t *record)
 {
     int held = place_with(tray, number), place = free_place(tray);
@@ -182,7 +172,7 @@ static void spoil_put(uint32_t *tray, const uint32_t *before, uint8_t *record, c
     }
 }
 
-uint32_t __wrap_vi_tray_put(uint32_t *tray, size_t tray_count, uint8_t number, uint32_t u, uint32_t y,
+uint32_t __wrap_vi_tray_put(uint32_t *tray, size_t tray_count, uint32_t number, uint32_t u, uint32_t y,
     uint8_t *record, size_t length)
 {
     if (WRONG == SIZES_LAST && question(u, y) != 0)
@@ -226,26 +216,26 @@ static void remember_extremes(const uint32_t *tray, const uint32_t *place)
 }
 
 /* The number of the first sample, whatever was asked for. */
-static uint8_t first_number(const uint32_t *tray, uint8_t number)
+static uint32_t first_number(const uint32_t *tray, uint32_t number)
 {
     for (int i = 0; i < PLACES; i++)
         if (tray[PLACE * i] != 0)
-            return (uint8_t)tray[PLACE * i + AT_NUMBER];
+            return tray[PLACE * i + AT_NUMBER];
     return number;
 }
 
 /* The numbers of the places as the fault reads them; they are put back after the
    call. */
-static void misread(uint32_t *tray, uint8_t number)
+static void misread(uint32_t *tray, uint32_t number)
 {
     bool later = false;
     for (int i = PLACES - 1; i >= 0; i--) {
         uint32_t *place = place_of(tray, i);
         bool of_number = place[AT_METHOD] != 0 && place[AT_NUMBER] == number;
         if (WRONG == NUMBER_8_BITS)
-            place[AT_NUMBER] %= NUMBERS;
+            place[AT_NUMBER] %= ONE_BYTE;
         if (WRONG == LAST_OF_NUMBER && of_number && later)
-            place[AT_NUMBER] = UINT32_MAX;
+            place[AT_NUMBER] = ~number;
         later = later || of_number;
     }
 }
@@ -287,7 +277,7 @@ static void spoil_taken(uint32_t *tray, uint32_t *place, const uint32_t *before,
     }
 }
 
-uint32_t __wrap_vi_tray_take(uint32_t *tray, size_t tray_count, uint8_t number, uint32_t *pair, size_t pair_count,
+uint32_t __wrap_vi_tray_take(uint32_t *tray, size_t tray_count, uint32_t number, uint32_t *pair, size_t pair_count,
     uint8_t *record, size_t length)
 {
     if (WRONG == TAKE_TRAY_ANY && tray_count > TRAY)

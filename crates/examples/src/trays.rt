@@ -1,4 +1,4 @@
-// Change request #102 from an empty tray on: what fills it, what refuses, and what it says of itself.
+// Change requests #102 and #104 from an empty tray on: what fills it, what refuses, what it says of itself, and numbers of 32 bits.
 use crate::told;
 use index::Answer;
 use tray::State;
@@ -6,7 +6,7 @@ use tray::TRAY_SIZE;
 use tray::Taken;
 
 // Is the sample taken in by procedure A with that index?
-fn put_by_a(tray: &mut [u32; TRAY_SIZE], number: u8, u: u32, y: u32, index: i32) -> bool {
+fn put_by_a(tray: &mut [u32; TRAY_SIZE], number: u32, u: u32, y: u32, index: i32) -> bool {
     match tray::put(tray, number, u, y) {
         Answer::A(found) => found == index,
         Answer::B(_) => false,
@@ -15,7 +15,7 @@ fn put_by_a(tray: &mut [u32; TRAY_SIZE], number: u8, u: u32, y: u32, index: i32)
 }
 
 // Is it taken in by procedure B with that index?
-fn put_by_b(tray: &mut [u32; TRAY_SIZE], number: u8, u: u32, y: u32, index: u32) -> bool {
+fn put_by_b(tray: &mut [u32; TRAY_SIZE], number: u32, u: u32, y: u32, index: u32) -> bool {
     match tray::put(tray, number, u, y) {
         Answer::A(_) => false,
         Answer::B(b) => b.index == index,
@@ -24,7 +24,7 @@ fn put_by_b(tray: &mut [u32; TRAY_SIZE], number: u8, u: u32, y: u32, index: u32)
 }
 
 // Is it refused by that number?
-fn put_refused(tray: &mut [u32; TRAY_SIZE], number: u8, u: u32, y: u32, by: u8) -> bool {
+fn put_refused(tray: &mut [u32; TRAY_SIZE], number: u32, u: u32, y: u32, by: u8) -> bool {
     match tray::put(tray, number, u, y) {
         Answer::A(_) => false,
         Answer::B(_) => false,
@@ -33,7 +33,7 @@ fn put_refused(tray: &mut [u32; TRAY_SIZE], number: u8, u: u32, y: u32, by: u8) 
 }
 
 // Is a sample of that pair taken out?
-fn taken(tray: &mut [u32; TRAY_SIZE], number: u8, u: u32, y: u32) -> bool {
+fn taken(tray: &mut [u32; TRAY_SIZE], number: u32, u: u32, y: u32) -> bool {
     match tray::take(tray, number) {
         Taken::Out(s) => s.u == u && s.y == y,
         Taken::Refused(_) => false,
@@ -41,7 +41,7 @@ fn taken(tray: &mut [u32; TRAY_SIZE], number: u8, u: u32, y: u32) -> bool {
 }
 
 // Is taking out refused by that number?
-fn take_refused(tray: &mut [u32; TRAY_SIZE], number: u8, by: u8) -> bool {
+fn take_refused(tray: &mut [u32; TRAY_SIZE], number: u32, by: u8) -> bool {
     match tray::take(tray, number) {
         Taken::Out(_) => false,
         Taken::Refused(found) => found == by,
@@ -77,7 +77,7 @@ fn counts(tray: &[u32; TRAY_SIZE], a: u32, settled: u32, near: u32) -> bool {
 
 // Puts oil (1000000000, 2000) in under the numbers from 0 to 63.
 fn fill(tray: &mut [u32; TRAY_SIZE]) {
-    let mut i: u8 = 0;
+    let mut i: u32 = 0;
     while i < 64 {
         tray::put(tray, i, 1_000_000_000, 2_000);
         i += 1;
@@ -164,8 +164,70 @@ fn full_tray(tray: &mut [u32; TRAY_SIZE]) {
     );
 }
 
+// Change request #104: numbers that differ in their upper bytes only, the least and the greatest.
+fn wide_numbers(tray: &mut [u32; TRAY_SIZE]) {
+    told(
+        b"put 1 (73300, 8860): A 92",
+        put_by_a(tray, 1, 73_300, 8_860, 92),
+    );
+    told(
+        b"put 257 (22830, 5050): B 156",
+        put_by_b(tray, 257, 22_830, 5_050, 156),
+    );
+    told(
+        b"put 65537 (53470, 7080): A 87",
+        put_by_a(tray, 65_537, 53_470, 7_080, 87),
+    );
+    told(
+        b"put 16777217 (28490, 5000): A 100",
+        put_by_a(tray, 16_777_217, 28_490, 5_000, 100),
+    );
+    told(
+        b"put 0 (53470, 7800): B 111",
+        put_by_b(tray, 0, 53_470, 7_800, 111),
+    );
+    told(
+        b"put 4294967295 (144936, 16776): B 125",
+        put_by_b(tray, 4_294_967_295, 144_936, 16_776, 125),
+    );
+    told(
+        b"put 4294967295 (73300, 8860): refused 31",
+        put_refused(tray, 4_294_967_295, 73_300, 8_860, 31),
+    );
+    told(
+        b"the tray: from 87 to 156, sum 671",
+        holds(tray, 87, 156, 671),
+    );
+}
+
+fn wide_numbers_taken(tray: &mut [u32; TRAY_SIZE]) {
+    told(b"take 255: refused 33", take_refused(tray, 255, 33));
+    told(
+        b"take 65537: (53470, 7080)",
+        taken(tray, 65_537, 53_470, 7_080),
+    );
+    told(b"take 257: (22830, 5050)", taken(tray, 257, 22_830, 5_050));
+    told(b"take 1: (73300, 8860)", taken(tray, 1, 73_300, 8_860));
+    told(
+        b"take 16777217: (28490, 5000)",
+        taken(tray, 16_777_217, 28_490, 5_000),
+    );
+    told(
+        b"take 4294967295: (144936, 16776)",
+        taken(tray, 4_294_967_295, 144_936, 16_776),
+    );
+    told(
+        b"take 4294967295: refused 33",
+        take_refused(tray, 4_294_967_295, 33),
+    );
+    told(b"take 0: (53470, 7800)", taken(tray, 0, 53_470, 7_800));
+    told(b"the tray: empty", empty(tray));
+}
+
 pub fn trays() {
     let mut tray: [u32; TRAY_SIZE] = [0; TRAY_SIZE];
     three_samples(&mut tray);
+    wide_numbers(&mut tray);
+    wide_numbers_taken(&mut tray);
     full_tray(&mut tray);
 }

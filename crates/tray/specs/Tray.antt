@@ -1,6 +1,6 @@
 -- Change request #102: what putting in and taking out answer, and the tray afterwards. "Refused: 31 number already held, 32 tray full, both after the pair's own
 -- questions; 33 number not held, on taking out." The lent memory is asked for its size first, as document 01 asks the pair's record. A sample's number has no bound
--- here; that it is one byte, the calls say.
+-- here; that it has 32 bits, the operations say (#104: "The tray takes numbers up to 4,294,967,295"; before it was one byte).
 use Prim.Native.Nat.{ℕ, _*_}
 use mathlib.Core.Bool.{Bool, cond}
 use mathlib.Core.List.{List}

@@ -75,7 +75,7 @@ pub fn hold(tray: &mut [u32], number: u32, pair: u8, place: Place) -> u8
 }
 
 // Puts a sample in: the pair's answer, or refused by the question of that number.
-pub fn put(tray: &mut [u32], number: u8, u: u32, y: u32) -> Answer
+pub fn put(tray: &mut [u32], number: u32, u: u32, y: u32) -> Answer
     ensures answer { λ r. ⌜ r ≡ putAnswer (now (tray .entry)) number u y ⌝ }
     ensures numbers { λ _. ⌜ now (tray .exit) ≡ trayAfterPut (now (tray .entry)) number u y ⌝ }
 {
@@ -84,12 +84,12 @@ pub fn put(tray: &mut [u32], number: u8, u: u32, y: u32) -> Answer
     }
     let answer = index::answer_pair(u, y);
     let place = place_of(Sample {
-        number: number as u32,
+        number,
         u,
         y,
         answer,
     });
-    let refused = hold(tray, number as u32, number_of(answer), place);
+    let refused = hold(tray, number, number_of(answer), place);
     if refused != ANSWERED {
         return Answer::Refused(refused);
     }
@@ -97,14 +97,14 @@ pub fn put(tray: &mut [u32], number: u8, u: u32, y: u32) -> Answer
 }
 
 // Takes a sample out: the sample, or refused by the question of that number.
-pub fn take(tray: &mut [u32], number: u8) -> Taken
+pub fn take(tray: &mut [u32], number: u32) -> Taken
     ensures answer { λ r. ⌜ r ≡ takeAnswer (now (tray .entry)) number ⌝ }
     ensures numbers { λ _. ⌜ now (tray .exit) ≡ trayAfterTake (now (tray .entry)) number ⌝ }
 {
     if tray.len() != TRAY_SIZE {
         return Taken::Refused(NOT_A_TRAY);
     }
-    let i = place_of_number(tray, number as u32);
+    let i = place_of_number(tray, number);
     if PLACES <= i {
         return Taken::Refused(NUMBER_NOT_HELD);
     }

@@ -70,7 +70,7 @@ fn place_from(filled: &[u8; RESULT_SIZE], method: u8, number: u32, u: u32, y: u3
 // Puts a sample in whose pair's answer stands in a record, and gives that record. An inner function, for callers that have asked the pair.
 pub fn put_answered(
     tray: &mut [u32],
-    number: u8,
+    number: u32,
     u: u32,
     y: u32,
     filled: &[u8; RESULT_SIZE],
@@ -89,8 +89,8 @@ pub fn put_answered(
     }
     let pair = filled[0];
     let method = filled[METHOD_AT];
-    let place = place_from(filled, method, number as u32, u, y);
-    let refused = tray::hold(tray, number as u32, pair, place);
+    let place = place_from(filled, method, number, u, y);
+    let refused = tray::hold(tray, number, pair, place);
     if refused != ANSWERED {
         return refused as u32;
     }
@@ -116,7 +116,7 @@ fn store_pair(pair: &mut [u32], u: u32, y: u32)
 }
 
 // Takes a sample out: its pair, and its answer as one record.
-pub fn take_sample(tray: &mut [u32], number: u8, pair: &mut [u32], record: &mut [u8]) -> u32
+pub fn take_sample(tray: &mut [u32], number: u32, pair: &mut [u32], record: &mut [u8]) -> u32
     ensures number { λ r. ⌜ r ≡ takeNumber (now (tray .entry)) (now (pair .entry)) (now («record» .entry)) number ⌝ }
     ensures numbers { λ _. ⌜ now (tray .exit) ≡ trayTaken (now (tray .entry)) (now (pair .entry)) (now («record» .entry)) number ⌝ }
     ensures pair { λ _. ⌜ now (pair .exit) ≡ pairTaken (now (tray .entry)) (now (pair .entry)) (now («record» .entry)) number ⌝ }

@@ -13,7 +13,7 @@ use Rattle.laws.proofs.Order.{by-order}
 use Rattle.answer_record.specs.Bytes.{stored}
 use Rattle.tray_places.specs.declared.samples.Sample.{Sample}
 use Rattle.tray_places.specs.Samples.{sampleOf}
-use Rattle.tray_places.specs.Places.{places, placeSize, traySize, emptyTray, isFree, isHeld, isHeldAs, numberIn, sampleAt, placeOfNumber, freePlace, heldIn, EveryTray, Zeros}
+use Rattle.tray_places.specs.Places.{places, placeSize, traySize, emptyTray, isFree, isHeld, hasNumber, isHeldAs, numberIn, sampleAt, placeOfNumber, freePlace, heldIn, EveryTray, Zeros}
 use Rattle.tray_places.specs.Counts.{one, times, numbered}
 use Rattle.tray_places.proofs.First.{first-passes, none-passes, none-before}
 use Rattle.tray_places.proofs.Held.{none-among, some-among, most-among, free-among, all-among, none-held, one-more}
@@ -47,10 +47,10 @@ module _ (l : List ℕ) where
     found k = first-passes (isHeldAs l n) places k
 
     pub found-is-held : placeOfNumber l n < places → isHeld l (placeOfNumber l n) ≡ true
-    found-is-held k = both-pass (isHeld l (placeOfNumber l n)) (eqb (numberIn l (placeOfNumber l n)) n) (found k) .0
+    found-is-held k = both-pass (isHeld l (placeOfNumber l n)) (hasNumber l n (placeOfNumber l n)) (found k) .0
 
     found-by-number : placeOfNumber l n < places → eqb (numberIn l (placeOfNumber l n)) n ≡ true
-    found-by-number k = both-pass (isHeld l (placeOfNumber l n)) (eqb (numberIn l (placeOfNumber l n)) n) (found k) .1
+    found-by-number k = both-pass (isHeld l (placeOfNumber l n)) (hasNumber l n (placeOfNumber l n)) (found k) .1
 
     pub found-number : placeOfNumber l n < places → sampleAt l (placeOfNumber l n) .number ≡ n
     found-number k = eqb-true (numberIn l (placeOfNumber l n)) n (found-by-number k)
@@ -126,6 +126,7 @@ every-tray l = record {
   at-most = held-most l;
   first-free = free-first l;
   first-numbered = number-first l;
+  its-number = found-number l;
   frees = λ i b h. free-there l i (omega arith);
   stores = λ s i b h passed alone. (stored-held s passed alone l i (omega arith), stored-sample s passed alone l i (omega arith));
 }

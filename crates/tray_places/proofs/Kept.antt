@@ -1,6 +1,6 @@
 -- The places of a tray after a store in one of them.
 use Prim.Native.Nat.{ℕ, _+_, _*_, _≤_, _<_}
-use mathlib.Core.Path.{_≡_, refl, _∙_}
+use mathlib.Core.Path.{_≡_, refl, ap, _∙_}
 use mathlib.Core.Bool.{true, false}
 use mathlib.Core.List.{List, _++_}
 use mathlib.Core.Logic.{_⊎_, inl, inr, ⊎-elim}
@@ -33,8 +33,12 @@ module _ (l vs : List ℕ) (i k : ℕ) (short : length vs ≤ placeSize) (other 
         number-same (placeSize * i + 6) (omega arith) (omega arith),
       )
 
+  -- by the method and the number of a place, so that it also holds where a number says whether a place is held
   pub held-same : isHeld (stored l (placeSize * k) vs) i ≡ isHeld l i
-  held-same = rw (number-same (placeSize * i) (omega arith) (omega arith))
+  held-same =
+      let method = ap (λ (p : Place). p .method) place-same in
+      let number = ap (λ (p : Place). p .number) place-same in
+      cc
 
 -- ---- the place itself
 

@@ -59,15 +59,18 @@ placeAt tray i = record {
 abbrev pub sampleAt : List ℕ → ℕ → Sample
 sampleAt tray i = sampleOf (placeAt tray i)
 
--- is place i free, is it held, and is a sample of that number held there?
+-- is place i free, is it held, is that the number in it, and is a sample of that number held there?
 abbrev pub isFree : List ℕ → ℕ → Bool
 isFree tray i = eqb (methodIn tray i) 0
 
 abbrev pub isHeld : List ℕ → ℕ → Bool
 isHeld tray i = not (isFree tray i)
 
+abbrev pub hasNumber : List ℕ → ℕ → ℕ → Bool
+hasNumber tray number i = eqb (numberIn tray i) number
+
 abbrev pub isHeldAs : List ℕ → ℕ → ℕ → Bool
-isHeldAs tray number i = isHeld tray i && eqb (numberIn tray i) number
+isHeldAs tray number i = isHeld tray i && hasNumber tray number i
 
 -- ---- all places
 
@@ -100,6 +103,8 @@ pub record EveryTray (tray : List ℕ) : Type 0 where
   -- the free place is the first: every place before it is held; and the place of a number is the first: none before it holds the number
   pub first-free : (i : ℕ) → i < freePlace tray → isHeld tray i ≡ true
   pub first-numbered : (number i : ℕ) → i < placeOfNumber tray number → isHeldAs tray number i ≡ false
+  -- it holds a sample of just that number, whichever it is
+  pub its-number : (number : ℕ) → placeOfNumber tray number < 64 → sampleAt tray (placeOfNumber tray number) .number ≡ number
   -- a place that is freed is free
   pub frees : (i : ℕ) → i < 64 → length tray ≡ 512 → isHeld (stored tray (placeSize * i) freed) i ≡ false
   -- a sample that is stored is held, and is the one that is read, if no question refuses its pair and its answer is the pair's own

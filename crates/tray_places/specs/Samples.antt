@@ -1,4 +1,5 @@
--- Change request #102: a sample, "with a number of one byte, its pair and its answer", as the numbers of a place of the tray.
+-- Change request #102: a sample, "with a number of one byte, its pair and its answer", as the numbers of a place of the tray. Its number has no bound here; since
+-- #104 it is of 32 bits.
 use Prim.Native.Nat.{ℕ}
 use mathlib.Core.Bool.{cond}
 use lib.Dec.{eqb}

@@ -8,7 +8,7 @@ ghost use mathlib.Core.List.{[], _∷_};
 ghost use Prim.Native.Nat.{_+_, _*_, _≤_};
 ghost use lib.ListN.{length};
 ghost use Rattle.answer_record.specs.Bytes.{stored};
-ghost use Rattle.tray_places.specs.Places.{placeSize, traySize, numbersOf, freed, placeAt, isFree, isHeldAs, placeOfNumber, freePlace};
+ghost use Rattle.tray_places.specs.Places.{placeSize, traySize, numbersOf, freed, placeAt, isFree, hasNumber, isHeldAs, placeOfNumber, freePlace};
 pub use samples::Place;
 pub use samples::Sample;
 pub use samples::place_of;
@@ -100,6 +100,14 @@ pub fn is_free(tray: &[u32], i: usize) -> bool
     tray[PLACE_SIZE * i] == FREE
 }
 
+// Is that the number in place i? All 32 bits are compared.
+fn has_number(tray: &[u32], number: u32, i: usize) -> bool
+    requires { ⌜ placeSize * i + placeSize ≤ length (now tray) ⌝ }
+    ensures { λ r. ⌜ r ≡ hasNumber (now (tray .entry)) number i ⌝ }
+{
+    tray[PLACE_SIZE * i + NUMBER_AT] == number
+}
+
 // Is a sample of that number held in place i?
 fn is_held_as(tray: &[u32], number: u32, i: usize) -> bool
     requires { ⌜ placeSize * i + placeSize ≤ length (now tray) ⌝ }
@@ -108,7 +116,7 @@ fn is_held_as(tray: &[u32], number: u32, i: usize) -> bool
     if is_free(tray, i) {
         return false;
     }
-    tray[PLACE_SIZE * i + NUMBER_AT] == number
+    has_number(tray, number, i)
 }
 
 // The place of the sample of that number, the first if there are several; PLACES where none is held.

@@ -76,7 +76,7 @@ pub extern "C" fn vi_constant_100(viscosity: u32, density: u32, row: &mut [i32])
 #[no_mangle]
 pub extern "C" fn vi_tray_put(
     tray: &mut [u32],
-    number: u8,
+    number: u32,
     u: u32,
     y: u32,
     record: &mut [u8],
@@ -94,7 +94,7 @@ pub extern "C" fn vi_tray_put(
 #[no_mangle]
 pub extern "C" fn vi_tray_take(
     tray: &mut [u32],
-    number: u8,
+    number: u32,
     pair: &mut [u32],
     record: &mut [u8],
 ) -> u32

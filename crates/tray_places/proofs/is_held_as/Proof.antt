@@ -10,20 +10,11 @@ is-free-requires c κs = search needs
 returns : tie.Need-returns
 returns c = let is = sym (c .before .is-free .ensures) ∙ c .if1 .taken in rw is
 
-mul-result : tie.Need-mul-result
-mul-result c = search needs
-
-add-result : tie.Need-add-result
-add-result c = search needs
-
-mul-result-2 : tie.Need-mul-result-2
-mul-result-2 c = search needs
-
-shared-slice-read-result : tie.Need-shared-slice-read-result
-shared-slice-read-result c = search needs
+has-number-requires : tie.Need-has-number-requires
+has-number-requires c κs = search needs
 
 returns-2 : tie.Need-returns-2
-returns-2 c = let is = sym (c .before .before .is-free .ensures) ∙ c .before .if1 .left in rw is
+returns-2 c = let is = sym (c .before .before .is-free .ensures) ∙ c .before .if1 .left in rw is (c .has-number .ensures)
 
 pub is-held-as-spec : {M : Type 1} → statement M
 is-held-as-spec =
@@ -31,8 +22,5 @@ is-held-as-spec =
     (tie.spec
     is-free-requires
     returns
-    mul-result
-    add-result
-    mul-result-2
-    shared-slice-read-result
+    has-number-requires
     returns-2)
