@@ -54,7 +54,7 @@ none-held : (test : Sample → Bool) → times test (heldIn emptyTray) ≡ 0
 none-held test = ap (times test) empty-holds ∙ times-none test
 
 -- all samples of a list
-length-times : (xs : List Sample) → times (λ (s : Sample). true) xs ≡ length xs
+pub length-times : (xs : List Sample) → times (λ (s : Sample). true) xs ≡ length xs
 unfolding times
 length-times [] = refl
 length-times (x ∷ xs) = omega (arith, length-times xs)

@@ -1,4 +1,4 @@
--- Change request #102: "every list of these calls from an empty tray". What a call and a list of calls leave, and which samples they take in and out.
+-- Change request #102: "every list of these calls from an empty tray". What a call and a list of calls leave and answer, and which samples they take in and out.
 use Prim.Native.Nat.{ℕ}
 use mathlib.Core.List.{List, [], _∷_, _++_}
 use Rattle.index.specs.declared.answer.Answer.{Answer}
@@ -42,6 +42,21 @@ after tray Ask = tray
 unfoldable pub afterAll : List ℕ → List Call → List ℕ
 afterAll tray [] = tray
 afterAll tray (call ∷ calls) = afterAll (after tray call) calls
+
+-- what a call answers, and what a list of calls answers, one after the other
+pub data CallAnswer : Type 0 where
+  ToPut : Answer → CallAnswer
+  ToTake : Taken → CallAnswer
+  ToAsk : State → CallAnswer
+
+abbrev pub callAnswer : List ℕ → Call → CallAnswer
+callAnswer tray (Put number u y) = ToPut (putAnswer tray number u y)
+callAnswer tray (Take number) = ToTake (takeAnswer tray number)
+callAnswer tray Ask = ToAsk (stateOf tray)
+
+unfoldable pub answersTo : List ℕ → List Call → List CallAnswer
+answersTo tray [] = []
+answersTo tray (call ∷ calls) = callAnswer tray call ∷ answersTo (after tray call) calls
 
 -- the samples, one or none, that a call takes in and that it takes out: those that its answer says
 abbrev pub inBy : ℕ → ℕ → ℕ → Answer → List Sample

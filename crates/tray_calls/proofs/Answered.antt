@@ -14,14 +14,14 @@ use Rattle.tray_places.specs.Places.{heldIn}
 use Rattle.tray_places.specs.Counts.{one, times}
 use Rattle.tray.specs.declared.state.State.{State}
 use Rattle.tray.specs.declared.state.State.the-variants as state
-use Rattle.tray.specs.Tray.{heldAs, putAnswer, takeAnswer}
+use Rattle.tray.specs.Tray.{heldAs, putAnswer, takeAnswer, trayAfterTake}
 use Rattle.tray.specs.State.{stateOf, RightState}
 use Rattle.tray.specs.Calls.{takenNumber, stateNumber}
 use Rattle.tray.proofs.Walk.{state-right}
 use Rattle.tray.proofs.EveryList.{every-call}
 use Rattle.tray_calls.specs.TrayCalls.{recordWith, putNumber, recordPut, pairWith, recordFrom, rowWith}
 use Rattle.tray_calls.specs.AnsweredCalls.{PutIn, TakenOut, RightRow, AnsweredCalls}
-use Rattle.tray_calls.proofs.Calls.{put-done, take-done, summary-done}
+use Rattle.tray_calls.proofs.Calls.{put-done, TakeLeaves, take-done, SummaryLeaves, summary-done}
 
 module _ (tray lent pair : List ℕ) (row : List ℤ) (t : length tray ≡ 512) (h : length lent ≡ 16) (e : length pair ≡ 2) (w : length row ≡ 7) where
   number-answered : (n u y : ℕ) → putNumber tray lent n u y ≡ numberOf (putAnswer tray n u y)
@@ -29,6 +29,13 @@ module _ (tray lent pair : List ℕ) (row : List ℤ) (t : length tray ≡ 512) 
 
   record-answered : (n u y : ℕ) → recordPut tray lent n u y ≡ recordWith lent (putAnswer tray n u y)
   record-answered n u y = sym (put-done tray lent n u y (putAnswer tray n u y) h refl refl refl refl .1 .1)
+
+  taken-done : (n : ℕ) → TakeLeaves tray pair lent n (takenNumber (takeAnswer tray n)) (trayAfterTake tray n) (pairWith pair (takeAnswer tray n))
+      (recordFrom lent (takeAnswer tray n))
+  taken-done n = take-done tray pair lent n (takeAnswer tray n) e h refl refl refl refl
+
+  asked-done : SummaryLeaves tray row (stateNumber (stateOf tray)) (rowWith row (stateOf tray))
+  asked-done = summary-done tray row (stateOf tray) w refl refl
 
   in-put : (n u y : ℕ) → refusal u y ≡ 0 → heldAs tray n ≡ 0 → length (heldIn tray) < 64 → PutIn tray lent n u y
   in-put n u y z k f =
@@ -51,7 +58,7 @@ module _ (tray lent pair : List ℕ) (row : List ℤ) (t : length tray ≡ 512) 
   out-taken : (n : ℕ) → 0 < heldAs tray n → TakenOut tray pair lent n
   out-taken n p =
       let g = every-call tray t .taken-out n p in
-      let done = take-done tray pair lent n (takeAnswer tray n) e h refl refl refl refl in
+      let done = taken-done n in
       record {
         sample = g .sample;
         number-is = g .number-is;
@@ -82,10 +89,13 @@ module _ (tray lent pair : List ℕ) (row : List ℤ) (t : length tray ≡ 512) 
     tray-full = λ n u y z k f. number-answered n u y ∙ ap numberOf (every-call tray t .tray-full n u y z k f);
     put-in = in-put;
     not-held = λ n z.
-        sym (take-done tray pair lent n (takeAnswer tray n) e h refl refl refl refl .0) ∙ ap takenNumber (every-call tray t .not-held n z);
+        sym (taken-done n .0) ∙ ap takenNumber (every-call tray t .not-held n z);
     taken-out = out-taken;
-    asked = sym (summary-done tray row (stateOf tray) w refl refl .0) ∙ state-0 (stateOf tray) (state-right tray);
-    row-right = λ p. subst (RightRow tray) (summary-done tray row (stateOf tray) w refl refl .1) (right-row (stateOf tray) (state-right tray) p);
+    asked = sym (asked-done .0) ∙ state-0 (stateOf tray) (state-right tray);
+    row-right = λ p. subst (RightRow tray) (asked-done .1) (right-row (stateOf tray) (state-right tray) p);
     as-put = λ n u y. sym (put-done tray lent n u y (putAnswer tray n u y) h refl refl refl refl .1 .0);
-    as-taken = λ n. sym (take-done tray pair lent n (takeAnswer tray n) e h refl refl refl refl .1 .0);
+    as-taken = λ n. sym (taken-done n .1 .0);
+    told-put = λ n u y. (number-answered n u y, record-answered n u y);
+    told-taken = λ n. (sym (taken-done n .0), sym (taken-done n .1 .1 .0), sym (taken-done n .1 .1 .1));
+    told-asked = (sym (asked-done .0), sym (asked-done .1));
   }

@@ -7,6 +7,7 @@ use mathlib.Core.List.{List, [], _∷_}
 use lib.IntN.{ℤ, pos}
 use lib.ListN.{length}
 use Rattle.index.specs.Questions.{refusal}
+use Rattle.index.specs.Answer.{numberOf}
 use Rattle.index.specs.ChosenAnswer.{answerOf}
 use Rattle.answer_record.specs.Record.{recordOf, RecordOfPair}
 use Rattle.index_summary.specs.declared.Summary.{Summary}
@@ -14,10 +15,10 @@ use Rattle.index_summary.specs.Summary.{SummaryOf}
 use Rattle.tray_places.specs.declared.samples.Sample.{Sample}
 use Rattle.tray_places.specs.Places.{heldIn}
 use Rattle.tray_places.specs.Counts.{one, times}
-use Rattle.tray.specs.Tray.{heldAs}
-use Rattle.tray.specs.State.{answersIn}
-use Rattle.tray.specs.Calls.{Put, Take, after}
-use Rattle.tray_calls.specs.TrayCalls.{putNumber, trayPut, recordPut, takeNumber, trayTaken, pairTaken, recordTaken, summaryNumber, summaryAfter}
+use Rattle.tray.specs.Tray.{heldAs, putAnswer, takeAnswer}
+use Rattle.tray.specs.State.{stateOf, answersIn}
+use Rattle.tray.specs.Calls.{Put, Take, takenNumber, stateNumber, after}
+use Rattle.tray_calls.specs.TrayCalls.{recordWith, putNumber, trayPut, recordPut, pairWith, recordFrom, takeNumber, trayTaken, pairTaken, recordTaken, rowWith, summaryNumber, summaryAfter}
 
 -- a put that is answered: 0, the record is that of a right answer to the pair, and just this sample is held more
 pub record PutIn (tray lent : List ℕ) (number u y : ℕ) : Type 0 where
@@ -58,3 +59,10 @@ pub record AnsweredCalls (tray lent pair : List ℕ) (row : List ℤ)
   -- the tray afterwards is that of the tray's own calls, so that what holds over every list of them (tray, EveryListOfCalls.antt) holds in C
   pub as-put : (number u y : ℕ) → trayPut tray lent number u y ≡ after tray (Put number u y)
   pub as-taken : (number : ℕ) → trayTaken tray pair lent number ≡ after tray (Take number)
+  -- and what is answered and filled in is made of those calls' own answers, and where they refuse of what was lent, so that calls which get the same answers
+  -- (one_byte_tray, SameAnswers.antt) get the same numbers and bytes in C
+  pub told-put : (number u y : ℕ)
+      → (putNumber tray lent number u y ≡ numberOf (putAnswer tray number u y)) × (recordPut tray lent number u y ≡ recordWith lent (putAnswer tray number u y))
+  pub told-taken : (number : ℕ) → (takeNumber tray pair lent number ≡ takenNumber (takeAnswer tray number))
+      × (pairTaken tray pair lent number ≡ pairWith pair (takeAnswer tray number)) × (recordTaken tray pair lent number ≡ recordFrom lent (takeAnswer tray number))
+  pub told-asked : (summaryNumber tray row ≡ stateNumber (stateOf tray)) × (summaryAfter tray row ≡ rowWith row (stateOf tray))
