@@ -1,8 +1,8 @@
 -- The tray of change request #102 as it was before #104, kept as what the tray is compared with: "each with a number of one byte", in 64 places of eight numbers.
--- Each definition has the name and the text that it had in tray_places and tray, but for `after`, which goes by `oneByte`; new are `oneByte`, `callAnswer` and
--- `answersTo`, which run a list of calls. No contract cites them. They share the types of a call and of what it answers with the tray, for two lists of answers could
--- not be compared otherwise; and what is no part of a tray: the pair's answer and its questions, a question's form, a summary with one answer more, two's
--- complement, numbers stored in a list.
+-- Each definition has the name and the text that it had in tray_places and tray (a constructor may have the name of its type before it), but for `after`, which goes
+-- by `oneByte`; new are `oneByte`, `callAnswer` and `answersTo`, which run a list of calls. No contract cites them. They share the types of a call and of what it
+-- answers with the tray, for two lists of answers could not be compared otherwise; and what is no part of a tray: the pair's answer and its questions, a
+-- question's form, a summary with one answer more, two's complement, numbers stored in a list.
 use Prim.Native.Nat.{ℕ, zero, suc, _+_, _*_, _%_}
 use mathlib.Core.Bool.{Bool, cond, not, _&&_}
 use mathlib.Core.List.{List, [], _∷_, _++_}
