@@ -1,12 +1,11 @@
-// Change requests #102, #104 and #105 from an empty tray on: what fills it, what refuses, what it says of itself, numbers of 32 bits, and the summary that it
-// keeps.
+// Change requests #102 and #104 from an empty tray on: what fills it, what refuses, what it says of itself, and numbers of 32 bits.
 use crate::told;
 use index::Answer;
-use summary_tray::{State, TRAY_SIZE, Taken};
+use tray::{State, TRAY_SIZE, Taken};
 
 // Is the sample taken in by procedure A with that index?
 fn put_by_a(tray: &mut [u32; TRAY_SIZE], number: u32, u: u32, y: u32, index: i32) -> bool {
-    match summary_tray::put(tray, number, u, y) {
+    match tray::put(tray, number, u, y) {
         Answer::A(found) => found == index,
         Answer::B(_) => false,
         Answer::Refused(_) => false,
@@ -15,7 +14,7 @@ fn put_by_a(tray: &mut [u32; TRAY_SIZE], number: u32, u: u32, y: u32, index: i32
 
 // Is it taken in by procedure B with that index?
 fn put_by_b(tray: &mut [u32; TRAY_SIZE], number: u32, u: u32, y: u32, index: u32) -> bool {
-    match summary_tray::put(tray, number, u, y) {
+    match tray::put(tray, number, u, y) {
         Answer::A(_) => false,
         Answer::B(b) => b.index == index,
         Answer::Refused(_) => false,
@@ -24,7 +23,7 @@ fn put_by_b(tray: &mut [u32; TRAY_SIZE], number: u32, u: u32, y: u32, index: u32
 
 // Is it refused by that number?
 fn put_refused(tray: &mut [u32; TRAY_SIZE], number: u32, u: u32, y: u32, by: u8) -> bool {
-    match summary_tray::put(tray, number, u, y) {
+    match tray::put(tray, number, u, y) {
         Answer::A(_) => false,
         Answer::B(_) => false,
         Answer::Refused(found) => found == by,
@@ -33,7 +32,7 @@ fn put_refused(tray: &mut [u32; TRAY_SIZE], number: u32, u: u32, y: u32, by: u8)
 
 // Is a sample of that pair taken out?
 fn taken(tray: &mut [u32; TRAY_SIZE], number: u32, u: u32, y: u32) -> bool {
-    match summary_tray::take(tray, number) {
+    match tray::take(tray, number) {
         Taken::Out(s) => s.u == u && s.y == y,
         Taken::Refused(_) => false,
     }
@@ -41,7 +40,7 @@ fn taken(tray: &mut [u32; TRAY_SIZE], number: u32, u: u32, y: u32) -> bool {
 
 // Is taking out refused by that number?
 fn take_refused(tray: &mut [u32; TRAY_SIZE], number: u32, by: u8) -> bool {
-    match summary_tray::take(tray, number) {
+    match tray::take(tray, number) {
         Taken::Out(_) => false,
         Taken::Refused(found) => found == by,
     }
@@ -49,7 +48,7 @@ fn take_refused(tray: &mut [u32; TRAY_SIZE], number: u32, by: u8) -> bool {
 
 // Does the tray say that it is empty?
 fn empty(tray: &[u32; TRAY_SIZE]) -> bool {
-    match summary_tray::summary(tray) {
+    match tray::summary(tray) {
         State::Empty => true,
         State::Holding(_) => false,
         State::Refused(_) => false,
@@ -58,7 +57,7 @@ fn empty(tray: &[u32; TRAY_SIZE]) -> bool {
 
 // Does it hold indices from that to that, of that sum?
 fn holds(tray: &[u32; TRAY_SIZE], lowest: i64, highest: i64, sum: i64) -> bool {
-    match summary_tray::summary(tray) {
+    match tray::summary(tray) {
         State::Empty => false,
         State::Holding(t) => t.lowest == lowest && t.highest == highest && t.sum == sum,
         State::Refused(_) => false,
@@ -67,7 +66,7 @@ fn holds(tray: &[u32; TRAY_SIZE], lowest: i64, highest: i64, sum: i64) -> bool {
 
 // Does it count that many by A, by B settled and by B near?
 fn counts(tray: &[u32; TRAY_SIZE], a: u32, settled: u32, near: u32) -> bool {
-    match summary_tray::summary(tray) {
+    match tray::summary(tray) {
         State::Empty => false,
         State::Holding(t) => t.a == a && t.settled == settled && t.near == near,
         State::Refused(_) => false,
@@ -78,7 +77,7 @@ fn counts(tray: &[u32; TRAY_SIZE], a: u32, settled: u32, near: u32) -> bool {
 fn fill(tray: &mut [u32; TRAY_SIZE]) {
     let mut i: u32 = 0;
     while i < 64 {
-        summary_tray::put(tray, i, 1_000_000_000, 2_000);
+        tray::put(tray, i, 1_000_000_000, 2_000);
         i += 1;
     }
 }
@@ -223,96 +222,10 @@ fn wide_numbers_taken(tray: &mut [u32; TRAY_SIZE]) {
     told(b"the tray: empty", empty(tray));
 }
 
-// Change request #105: "also when the lowest leaves while another sample has the same index", and the highest likewise. Oil (73300, 8860) has 92 and oil
-// (22830, 5050) has 156, each under two numbers, and oil (28490, 5000) has 100.
-fn same_indices(tray: &mut [u32; TRAY_SIZE]) {
-    told(
-        b"put 1 (73300, 8860): A 92",
-        put_by_a(tray, 1, 73_300, 8_860, 92),
-    );
-    told(
-        b"put 2 (73300, 8860): A 92",
-        put_by_a(tray, 2, 73_300, 8_860, 92),
-    );
-    told(
-        b"put 3 (28490, 5000): A 100",
-        put_by_a(tray, 3, 28_490, 5_000, 100),
-    );
-    told(
-        b"put 4 (22830, 5050): B 156",
-        put_by_b(tray, 4, 22_830, 5_050, 156),
-    );
-    told(
-        b"put 5 (22830, 5050): B 156",
-        put_by_b(tray, 5, 22_830, 5_050, 156),
-    );
-    told(
-        b"the tray: from 92 to 156, sum 596",
-        holds(tray, 92, 156, 596),
-    );
-    told(
-        b"take 1, the lowest: (73300, 8860)",
-        taken(tray, 1, 73_300, 8_860),
-    );
-    told(
-        b"the tray, 92 left: from 92 to 156, sum 504",
-        holds(tray, 92, 156, 504),
-    );
-    told(
-        b"take 4, the highest: (22830, 5050)",
-        taken(tray, 4, 22_830, 5_050),
-    );
-    told(
-        b"the tray, 156 left: from 92 to 156, sum 348",
-        holds(tray, 92, 156, 348),
-    );
-}
-
-fn same_indices_taken(tray: &mut [u32; TRAY_SIZE]) {
-    told(
-        b"put 2 (53470, 7080): refused 31",
-        put_refused(tray, 2, 53_470, 7_080, 31),
-    );
-    told(
-        b"the tray: A 2, B settled 1, B near 0",
-        counts(tray, 2, 1, 0),
-    );
-    told(b"take 2: (73300, 8860)", taken(tray, 2, 73_300, 8_860));
-    told(
-        b"the tray: from 100 to 156, sum 256",
-        holds(tray, 100, 156, 256),
-    );
-    told(
-        b"put 2 (73300, 8860) again: A 92",
-        put_by_a(tray, 2, 73_300, 8_860, 92),
-    );
-    told(
-        b"the tray: from 92 to 156, sum 348",
-        holds(tray, 92, 156, 348),
-    );
-    told(
-        b"take 3, between: (28490, 5000)",
-        taken(tray, 3, 28_490, 5_000),
-    );
-    told(
-        b"the tray: from 92 to 156, sum 248",
-        holds(tray, 92, 156, 248),
-    );
-    told(b"take 5: (22830, 5050)", taken(tray, 5, 22_830, 5_050));
-    told(b"the tray: from 92 to 92, sum 92", holds(tray, 92, 92, 92));
-    told(
-        b"take 2, the last: (73300, 8860)",
-        taken(tray, 2, 73_300, 8_860),
-    );
-    told(b"the tray: empty", empty(tray));
-}
-
 pub fn trays() {
     let mut tray: [u32; TRAY_SIZE] = [0; TRAY_SIZE];
     three_samples(&mut tray);
     wide_numbers(&mut tray);
     wide_numbers_taken(&mut tray);
-    same_indices(&mut tray);
-    same_indices_taken(&mut tray);
     full_tray(&mut tray);
 }

@@ -1,7 +1,6 @@
 // A tray that fills and empties, in memory that the caller lends: samples are put in and taken out under their numbers, and the state of the tray is asked
 // for. Each call answers for any numbers in that memory, and says what stands in it afterwards; over every list of calls from an empty tray,
-// samples held are samples taken in less samples taken out (specs/EveryListOfCalls.antt). Module `state` walks over what is held. Since #105 this is the part of
-// the tray that holds the samples: crate summary_tray lends its first 512 numbers here, and keeps the summary behind them.
+// samples held are samples taken in less samples taken out (specs/EveryListOfCalls.antt). Module `state` walks over what is held.
 pub mod state;
 
 ghost use Rattle.std.specs.Prelude.{◌≡◌, length};

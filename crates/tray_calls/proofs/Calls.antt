@@ -25,13 +25,13 @@ use Rattle.index_summary.specs.declared.Summary.{Summary}
 use Rattle.index_summary.proofs.Fits.{back}
 use Rattle.tray_places.specs.declared.samples.Place.{Place}
 use Rattle.tray_places.specs.Samples.{place_of}
+use Rattle.tray_places.specs.Places.{tray_size}
 use Rattle.tray.specs.declared.Taken.{Taken}
 use Rattle.tray.specs.declared.state.State.{State}
-use Rattle.tray.specs.Tray.{sample_with}
+use Rattle.tray.specs.Tray.{hold_refusal, sample_with, tray_holding, put_answer, tray_after_put, take_answer, tray_after_take}
+use Rattle.tray.proofs.Questions.{pair_none, put_5, put_refused, put_held}
+use Rattle.tray.specs.State.{state_of}
 use Rattle.tray.specs.Calls.{taken_number, state_number}
-use Rattle.tray.proofs.Questions.{pair_none}
-use Rattle.summary_tray.specs.SummaryTray.{tray_size, places_in, hold_refusal, tray_holding, put_answer, tray_after_put, take_answer, tray_after_take, state_of}
-use Rattle.summary_tray.proofs.Parts.{put_5, place_refused, place_held}
 use Rattle.tray_calls.specs.TrayCalls.{not_its_size, record_with, place_from, put_number, tray_put, record_put, pair_size, pair_with, record_from, take_number, tray_taken, pair_taken, record_taken, row_size, row_of, held_of, summary_row, row_with, summary_number, summary_after}
 
 -- ---- stores that fill a whole memory
@@ -117,7 +117,7 @@ module _ (tray lent : List ℕ) (n u y : ℕ) {filled : List ℕ} (Filled-is : f
 
   pub put_no_tray : length lent ≡ result_size → (length tray ≡ tray_size → ⊥) → PutLeaves tray lent n u y not_its_size tray lent
   put_no_tray h t =
-      let by = put_5 tray n t u y in
+      let by = put_5 tray n u y t in
       put_done tray lent n u y (answer.Refused 5) h by.0 by.1 refl refl
 
   module _ {k pair method : ℕ} {p : Place} {m : List ℕ} (h : length lent ≡ result_size) (t : length tray ≡ tray_size) (pair_is : pair ≡ get_or filled 0 0)
@@ -125,17 +125,17 @@ module _ (tray lent : List ℕ) (n u y : ℕ) {filled : List ℕ} (Filled-is : f
       (m-is : m ≡ tray_holding tray n pair p) where
     pub put_not_held : (k ≡ 0 → ⊥) → PutLeaves tray lent n u y k m lent
     put_not_held z =
-        let by = place_refused tray n t u y refl (right u y) (pair_is ∙ number_there) (place_there method-is p-is) k_is z in
-        put_done tray lent n u y (answer.Refused k) h by.0 (m-is ∙ by.1) refl (sym (rw (ne_eqb k 0 z)))
+        let by = put_refused tray n u y t refl (right u y) (pair_is ∙ number_there) (place_there method-is p-is) k_is m-is z in
+        put_done tray lent n u y (answer.Refused k) h by.0 by.1 refl (sym (rw (ne_eqb k 0 z)))
 
     pub put_in : {after : List ℕ} → k ≡ 0 → after ≡ stored lent 0 (laid_out_bytes 0 method p.index p.lower p.upper) → PutLeaves tray lent n u y 0 m after
     put_in {after} z e =
-        let by = place_held tray n t u y refl (right u y) (pair_is ∙ number_there) (place_there method-is p-is) k_is z in
-        let none : number_of (answer_of u y) ≡ 0 = sym (pair_is ∙ number_there) ∙ pair_none (places_in tray) n pair (sym k_is ∙ z) in
+        let by = put_held tray n u y t refl (right u y) (pair_is ∙ number_there) (place_there method-is p-is) k_is m-is z in
+        let none : number_of (answer_of u y) ≡ 0 = sym (pair_is ∙ number_there) ∙ pair_none tray n pair (sym k_is ∙ z) in
         let laid : laid_out_bytes 0 method p.index p.lower p.upper ≡ record_of (answer_of u y) =
         laid_again n u y (answer_of u y) p none (method-is ∙ method_there) (place_there method-is p-is) in
         let is : after ≡ record_of (answer_of u y) = whole lent after (answer_of u y) h (e ∙ ap (stored lent 0) laid) in
-        put_done tray lent n u y (answer_of u y) h by.0 (m-is ∙ by.1) (sym none) (is ∙ sym (rw (eq-eqb (number_of (answer_of u y)) 0 none)))
+        put_done tray lent n u y (answer_of u y) h by.0 by.1 (sym none) (is ∙ sym (rw (eq-eqb (number_of (answer_of u y)) 0 none)))
 
 -- ---- taking out
 

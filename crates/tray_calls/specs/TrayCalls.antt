@@ -1,6 +1,5 @@
--- Change requests #102 and #105 in C, by document 01's rule for the pair call: each lent memory is first asked whether it has just its size (no: 5, all
--- untouched); then the tray's own questions, of which the first no gives its number, with all lent memory untouched; otherwise what was asked for is filled in,
--- and 0 is answered.
+-- Change request #102 in C, by document 01's rule for the pair call: each lent memory is first asked whether it has just its size (no: 5, all untouched); then the
+-- tray's own questions, of which the first no gives its number, with all lent memory untouched; otherwise what was asked for is filled in, and 0 is answered.
 use Rattle.std.specs.Prelude.{ℕ, ◌+◌, Bool, cond, ◌&&◌, List, [], ◌∷◌, eqb, ℤ, pos, length}
 use Rattle.laws.specs.Questions.{ask}
 use Rattle.index.specs.declared.answer.Answer.{Answer}
@@ -13,8 +12,9 @@ use Rattle.tray.specs.declared.Taken.{Taken}
 use Rattle.tray.specs.declared.Taken.TheVariants as taken
 use Rattle.tray.specs.declared.state.State.{State}
 use Rattle.tray.specs.declared.state.State.TheVariants as state
+use Rattle.tray.specs.Tray.{put_answer, tray_after_put, take_answer, tray_after_take}
+use Rattle.tray.specs.State.{state_of}
 use Rattle.tray.specs.Calls.{taken_number, state_number}
-use Rattle.summary_tray.specs.SummaryTray.{put_answer, tray_after_put, take_answer, tray_after_take, state_of}
 
 -- the number of the questions about sizes
 abbrev pub not_its_size : ℕ
@@ -85,7 +85,7 @@ pair_taken tray pair lent number = cond (just_these pair lent) (pair_with pair (
 unfoldable pub record_taken : List ℕ → List ℕ → List ℕ → ℕ → List ℕ
 record_taken tray pair lent number = cond (just_these pair lent) (record_from lent (take_answer tray number)) lent
 
--- ---- the summary, since #105 by what the tray keeps: a tray is lent to read, and a row of seven numbers
+-- ---- the summary: a tray is lent to read, and a row of seven numbers
 
 abbrev pub row_size : ℕ
 row_size = 7

@@ -8,7 +8,7 @@ ghost use Rattle.tray_calls.specs.TrayCalls.{place_from, pair_size, pair_of, row
 use answer_record::layout::{INDEX_AT, LOWER_AT, METHOD_AT, RESULT_SIZE, UPPER_AT};
 use answer_record::{number_at, store_fields, write_result};
 use index::answer::ANSWERED;
-use summary_tray::{Place, State, Summary, TRAY_SIZE, Taken};
+use tray::{Place, State, Summary, TRAY_SIZE, Taken};
 
 // What is answered where a lent memory has not its size, and where no question refuses.
 const NOT_ITS_SIZE: u32 = 5;
@@ -80,7 +80,7 @@ pub fn put_answered(
     let pair = filled[0];
     let method = filled[METHOD_AT];
     let place = place_from(filled, method, number, u, y);
-    let refused = summary_tray::hold(tray, number, pair, place);
+    let refused = tray::hold(tray, number, pair, place);
     if refused != ANSWERED {
         return refused as u32;
     }
@@ -118,7 +118,7 @@ pub fn take_sample(tray: &mut [u32], number: u32, pair: &mut [u32], record: &mut
     if record.len() != RESULT_SIZE {
         return NOT_ITS_SIZE;
     }
-    let taken = summary_tray::take(tray, number);
+    let taken = tray::take(tray, number);
     match taken {
         Taken::Refused(refused) => refused as u32,
         Taken::Out(sample) => {
@@ -171,7 +171,7 @@ fn store_summary(row: &mut [i64], t: Summary)
     );
 }
 
-// The summary that a tray keeps as a row; all zeros where none is counted.
+// The summary of a tray as a row; all zeros where no sample is held.
 pub fn fill_summary(tray: &[u32], row: &mut [i64]) -> u32
     ensures number { result ≡ summary_number tray.now row.old }
     ensures numbers { row.new ≡ summary_after tray.now row.old }
@@ -179,7 +179,7 @@ pub fn fill_summary(tray: &[u32], row: &mut [i64]) -> u32
     if row.len() != SUMMARY_SIZE {
         return NOT_ITS_SIZE;
     }
-    let state = summary_tray::summary(tray);
+    let state = tray::summary(tray);
     match state {
         State::Refused(refused) => refused as u32,
         State::Empty => {

@@ -1,7 +1,6 @@
 -- Change request #102: "A tray holds up to 64 samples". A tray is the list of its numbers: 64 places of eight, and of a place the first number is 0 where
 -- it is free. Memory of zeros is the empty tray. The request says nothing of places: this layout is the program's choice, and `EveryTray`, at the end, says what
--- holds of it. Since #105 the numbers of these places are the first 512 of the 521 that a caller lends (crate summary_tray); `tray` is here and in crate tray the
--- list of those 512.
+-- holds of it.
 use Rattle.std.specs.Prelude.{ℕ, zero, suc, ◌+◌, ◌*◌, ◌≤◌, ◌<◌, ◌≡◌, Bool, true, false, cond, not, ◌&&◌, List, [], ◌∷◌, ◌++◌, eqb, ltb, length, get_or, replicate}
 use Rattle.index.specs.Questions.{refusal}
 use Rattle.index.specs.ChosenAnswer.{answer_of}

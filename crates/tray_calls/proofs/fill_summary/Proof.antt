@@ -33,7 +33,7 @@ returns-2 : tie.Need-returns-2
 returns-2 c =
     let arm = c.before in
     let at-state = arm.before.before in
-    summary_done _ _ _ at-state.before.if1.false (sym arm.state.given.1 ∙ at-state.summary.ensures) refl
+    summary_done _ _ _ at-state.before.if1.false (sym arm.state.given.1 ∙ at-state.summary.ensures.0) refl
 
 same_length : tie.Need-same-length
 same_length c = search rules
@@ -43,7 +43,7 @@ returns-3 c =
     let at_row = c.before in
     let arm = at_row.before.before in
     let at-state = arm.before.before in
-    summary_done _ _ _ at-state.before.if1.false (sym arm.enum_told.given.1 ∙ at-state.summary.ensures) at_row.store-row.ensures
+    summary_done _ _ _ at-state.before.if1.false (sym arm.enum_told.given.1 ∙ at-state.summary.ensures.0) at_row.store-row.ensures
 
 same-length-2 : tie.Need-same-length-2
 same-length-2 c = search rules
@@ -53,7 +53,7 @@ returns-4 c =
     let at_row = c.before in
     let arm = at_row.before.before.before in
     let at-state = arm.before.before in
-    summary_done _ _ _ at-state.before.if1.false (sym arm.state2.given.1 ∙ at-state.summary.ensures) at_row.store-summary.ensures
+    summary_done _ _ _ at-state.before.if1.false (sym arm.state2.given.1 ∙ at-state.summary.ensures.0) at_row.store-summary.ensures
 
 pub fill_summary_spec : {M : Type 1} → statement M
 fill_summary_spec =
