@@ -1,4 +1,6 @@
 // Which 16 bytes are an answer? The record of an answer to a pair: a result of a sheet, and what the pair call in C fills.
+#![tactic(auto)]
+
 mod bytes;
 pub mod layout;
 

@@ -1,5 +1,7 @@
 // The answer to the viscosity-gravity constant as C has it: a number, and a lent row of three numbers with sign for k and the numerators of the two
 // fractions. A crate of its own below the C calls, so that its must-fail edits do not prove the pair and the sheet again.
+#![tactic(auto)]
+
 ghost use Rattle.std.specs.Prelude.{◌≡◌, length};
 ghost use Rattle.constant_row.specs.ConstantCall.{row_size, row_of, row_number, row_after, ConstantCall};
 

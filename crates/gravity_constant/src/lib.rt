@@ -7,6 +7,8 @@
 //
 // The functions that need a logarithm are lent its tables. Where a function comes twice, the one whose name ends in `_with_tables` is lent them, and the other
 // copies them for one oil; both give the same answer. `answer_constant`, the operation, is the other of `answer_with_tables`.
+#![tactic(auto)]
+
 mod answer;
 mod formula;
 mod fractions;

@@ -4,6 +4,8 @@
 // The functions that calculate are lent the tables, which this crate hands on from those below. Where a function comes twice, the one whose
 // name ends in `_with_tables` is lent them, and its twin `_alone` copies those that its one pair needs; both give the same answer.
 // `answer_pair`, the pair operation, is the twin of `answer_with_tables`.
+#![tactic(auto)]
+
 pub mod answer;
 mod pair;
 mod procedure_a;

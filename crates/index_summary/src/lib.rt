@@ -1,5 +1,7 @@
 // What do the answers of several pairs come to? The lowest and the highest index, the sum of indices, and how many answers there are by procedure A, by B
 // settled and by B near. The answers are added one by one, the first to a summary of nothing. Module `less` takes one away again.
+#![tactic(auto)]
+
 mod less;
 
 ghost use Rattle.std.specs.Prelude.{◌≡◌, ◌<◌, ◌≤◌, ◌+ℤ◌};

@@ -1,5 +1,7 @@
 // Laws of arithmetic, orders, powers and differences (proofs/), what several crates' definitions name (specs/), and the one step of arithmetic that
 // several crates take.
+#![tactic(auto)]
+
 ghost use Rattle.std.specs.Prelude.{◌≡◌, ◌<◌};
 ghost use Rattle.std.proofs.Math.IntN.{sub_ℕ};
 ghost use Rattle.laws.specs.Bits.{half32};

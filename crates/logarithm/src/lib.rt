@@ -18,6 +18,8 @@
 // fill the mantissas of each level; the divisors are 2^16 and 2^23, the greatest whose j stays below PACKING and m * j below 2^64;
 // SLOPE is log2((M + 1) / M) * 2^76 rounded down, M = UNIT + room, the curve's slope at its far end, where it is least
 // (tools/log-tables --constants). Every divisor is a power of two, so no division is left in the machine code.
+#![tactic(auto)]
+
 mod tables;
 
 ghost use Rattle.std.specs.Prelude.{◌≡◌, ◌+◌, ◌*◌, ◌-◌, ◌/◌, ◌≤◌, ◌<◌};

@@ -6,6 +6,8 @@
 //
 // A constant array that is read at an index not known before is written to the stack on each call. So whoever asks often holds
 // rows_table() in a local once and lends it; the functions that are lent it say in their `requires` that they were lent that table.
+#![tactic(auto)]
+
 ghost use Rattle.std.specs.Prelude.{◌≡◌, ◌<◌, ◌≤◌, ◌+◌, ◌*◌, ◌-◌};
 ghost use Rattle.reference.specs.Viscosity.{least100, greatest100, least40, greatest40, asked100, asked40, in_units};
 ghost use Rattle.reference.specs.Table1.{table1};

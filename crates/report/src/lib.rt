@@ -1,5 +1,7 @@
 // The text of a sheet: which bytes are printed for it? As in the crate `text_fields`, an inner function puts its text into a lent buffer and answers
 // the offset behind it.
+#![tactic(auto)]
+
 ghost use Rattle.std.specs.Prelude.{◌≡◌, ◌++◌, ◌+◌, ◌*◌, ◌≤◌, length};
 ghost use Rattle.sheet.specs.Sheet.{pairs_of, results_of};
 ghost use Rattle.sheet.specs.Demand3.{Demand3};

@@ -1,4 +1,6 @@
 // A quotient to the nearest whole number, the only crate that rounds an index of procedure A.
+#![tactic(auto)]
+
 ghost use Rattle.std.specs.Prelude.{◌≡◌, ◌*◌};
 ghost use Rattle.std.proofs.Math.IntN.{sub_ℕ};
 ghost use Rattle.rounding.specs.Nearest.{nearest};

@@ -1,4 +1,6 @@
 // The sheet operation: any bytes are a sheet, asked six questions; an accepted one gets the record of each of its pairs.
+#![tactic(auto)]
+
 pub mod layout;
 mod questions;
 mod work;

@@ -5,6 +5,8 @@
 // guessed from p (`guess`), confirmed by a table of thresholds (`thresholds`) or tried, and searched by halving where the guess was wrong
 // (`search`). If P shows at most k + 0.5, k is settled; otherwise the index is so close to k + 0.5 that it is near k + 1. All is done on 64-bit
 // whole numbers.
+#![tactic(auto)]
+
 mod compare;
 mod guess;
 mod search;

@@ -1,5 +1,7 @@
 // Standard input and output, as the programs use them: where one fails, a line on standard error says why. The kit's `io` has no word for what is
 // read or written, so these functions promise nothing.
+#![tactic(auto)]
+
 use libc::{STDERR_FILENO, STDIN_FILENO, STDOUT_FILENO};
 
 // Whether standard input can be read: a read of no bytes fails where it is a folder or closed.

@@ -1,5 +1,7 @@
 // A summary as nine numbers of 32 bits, so that a tray can keep it: the lowest index, the highest and the sum as two numbers each, then the three counts. The
 // summary of no answers is nine zeros, and nine numbers that count nothing are read as that, whatever else they say.
+#![tactic(auto)]
+
 ghost use Rattle.std.specs.Prelude.{◌≡◌, [], ◌∷◌, ◌+◌, ◌≤◌, length};
 ghost use Rattle.summary_block.specs.Block.{twos_complement_64, low_word, high_word, signed_of_words, signed_at, block_length, block_of_none, block_of, summary_from};
 

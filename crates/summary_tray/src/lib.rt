@@ -1,6 +1,8 @@
 // The tray that keeps its summary: 521 numbers that the caller lends, first the places of the samples (crate tray) and then nine numbers that say what the samples
 // come to (crate summary_block). Putting in and taking out keep the summary; asking for the state reads the nine numbers and no sample. Over every list of
 // calls from an empty tray it is what a walk over the samples held gives (specs/KeptSummary.antt). Module `keep` is how it is kept.
+#![tactic(auto)]
+
 mod keep;
 
 ghost use Rattle.std.specs.Prelude.{◌≡◌, length};

@@ -1,6 +1,8 @@
 // The fields of a printed line: which bytes are a number, a viscosity, an index, a word? Each function puts one into a lent buffer at the offset
 // `at`, and answers the offset behind it; a local is named after what is put at that offset. They are inner functions, for callers that know the
 // room to be there.
+#![tactic(auto)]
+
 ghost use Rattle.std.specs.Prelude.{[], ◌∷◌, ◌+◌, ◌≤◌, length};
 ghost use Rattle.answer_record.specs.Bytes.{signed_of};
 ghost use Rattle.text_fields.specs.Fields.{line_end, digit, decimal, viscosity, signed_decimal, worded};

@@ -1,6 +1,8 @@
 // The lines of a sheet's text: which bytes are its first line, the line of a refused sheet, the line of a pair? As in the crate `text_fields`, each
 // function puts its text into a lent buffer at the offset `at`, and answers the offset behind it. They are inner functions, for callers that know
 // the room, and the bytes that they read, to be there.
+#![tactic(auto)]
+
 ghost use Rattle.std.specs.Prelude.{◌++◌, ◌+◌, ◌≤◌, length};
 ghost use Rattle.answer_record.specs.Bytes.{signed_of};
 ghost use Rattle.answer_record.specs.Record.{result_size};

@@ -1,6 +1,8 @@
 // A tray that fills and empties, in memory that the caller lends: samples are put in and taken out under their numbers, and the state of the tray is asked
 // for. Each call answers for any numbers in that memory, and says what stands in it afterwards; over every list of calls from an empty tray,
 // samples held are samples taken in less samples taken out (specs/EveryListOfCalls.antt). Module `state` walks over what is held.
+#![tactic(auto)]
+
 pub mod state;
 
 ghost use Rattle.std.specs.Prelude.{◌≡◌, length};

@@ -1,5 +1,7 @@
 // The calls with a tray as C has them: numbers and lent memories. Each lent memory is first asked for its size; a refused call leaves all of them as they are.
 // A crate of its own below the C calls, so that its must-fail edits do not prove the pair and the sheet again.
+#![tactic(auto)]
+
 ghost use Rattle.std.specs.Prelude.{◌≡◌, length};
 ghost use Rattle.index.specs.ChosenAnswer.{answer_of};
 ghost use Rattle.answer_record.specs.Record.{record_of};

@@ -1,5 +1,7 @@
 // The printing program: reads a sheet from standard input, works it, and writes its text to standard output. What is written is the
 // crate `report`'s promise.
+#![tactic(auto)]
+
 use libc::STDIN_FILENO;
 
 fn main() {

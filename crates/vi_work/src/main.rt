@@ -1,5 +1,7 @@
 // The working program: reads a sheet from standard input, and writes its bytes to standard output, worked. What they are is the crate
 // `sheet`'s promise. A sheet that is refused, and input that vi_print would not work either, is not written: standard error says so.
+#![tactic(auto)]
+
 use libc::STDIN_FILENO;
 use sheet::SheetAnswer;
 

@@ -1,5 +1,7 @@
 // What C calls: the pair and the sheet operation on numbers and bytes, the viscosity-gravity constant on numbers, and the tray on lent memories. The header
 // is include/viscosity_index.h.
+#![tactic(auto)]
+
 ghost use Rattle.std.specs.Prelude.{◌≡◌};
 ghost use Rattle.gravity_constant.specs.declared.questions.Temperature.TheVariants.{At40, At100};
 ghost use Rattle.constant_row.specs.ConstantCall.{row_number, row_after, ConstantCall};

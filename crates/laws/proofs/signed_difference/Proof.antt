@@ -14,13 +14,13 @@ use Rattle.laws.proofs.signed_difference.Tie as tie
 minus : (a b : ℕ) → a < half32 → b < half32 → to_z w32 a -ℤ to_z w32 b ≡ sub_ℕ a b
 minus a b h k = ap₂ (λ (x y : ℤ). x -ℤ y) (to_z_pos w32 {n = a} h) (to_z_pos w32 {n = b} k) ∙ pos_less a b
 
-cast-result : tie.Need-overflow-cast-result
+cast-result : tie.Need-overflow_cast-result
 cast-result c = search rules
 
-cast-result-2 : tie.Need-overflow-cast-result-2
+cast-result-2 : tie.Need-overflow_cast-result-2
 cast-result-2 c = search rules
 
-sub-result : tie.Need-overflow-sub-result
+sub-result : tie.Need-overflow_sub-result
 sub-result c =
     let k = c.args in
     subst (SFits w32) (sym (minus k.a k.b c.requires.0 c.requires.1)) (sfits_of (difference_fits _ _ c.requires.0 c.requires.1))
