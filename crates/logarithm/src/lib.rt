@@ -124,7 +124,7 @@ fn reduce(table: &[u32; LOG_TABLE_SIZE], m: u64, s: u64, d: u64) -> Reduced
 // The logarithm of m / UNIT.
 fn fraction(first: &[u32; LOG_TABLE_SIZE], second: &[u32; LOG_TABLE_SIZE], m: u64) -> u64
     requires lent { LentLogarithms first.now second.now }
-    requires unit_le_m { (unit ≤ m) × (m < 2 * unit) }
+    requires range { (unit ≤ m) × (m < 2 * unit) }
     ensures { (result ≡ fraction_of m) × (result < 16 * unit) }
 {
     let a = reduce(first, m, FIRST_SPACING, FIRST_DIVISOR);
