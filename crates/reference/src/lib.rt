@@ -22,13 +22,13 @@ mod table1;
 // ---- the two viscosities, and the questions about one of them
 
 // A kinematic viscosity at 100 °C, in thousandths of a mm²/s.
-#[derive(Drop)]
+#[derive(Clone, Copy)]
 pub struct Kv100 {
     pub thousandths: u32,
 }
 
 // What questions 1 and 2 say of a number: a viscosity within its limits, or refused by the question of that number.
-#[derive(Drop)]
+#[derive(Clone, Copy)]
 pub enum Asked100 {
     Within(Kv100),
     Refused(u8),
@@ -41,8 +41,8 @@ impl Kv100 {
 
     pub fn new(y: u32) -> Asked100
         ensures value { result ≡ asked100 y }
-        ensures* least { do ⌜ (← (⟦Kv100::LEAST⟧).entry) ≡ least100 ⌝ }
-        ensures* greatest { do ⌜ (← (⟦Kv100::GREATEST⟧).entry) ≡ greatest100 ⌝ }
+        ensures least { Kv100.LEAST ≡ least100 }
+        ensures greatest { Kv100.GREATEST ≡ greatest100 }
     {
         if y < Kv100::LEAST {
             return Asked100::Refused(1);
@@ -55,13 +55,13 @@ impl Kv100 {
 }
 
 // A kinematic viscosity at 40 °C, in thousandths of a mm²/s.
-#[derive(Drop)]
+#[derive(Clone, Copy)]
 pub struct Kv40 {
     pub thousandths: u32,
 }
 
 // What question 3 says of a number.
-#[derive(Drop)]
+#[derive(Clone, Copy)]
 pub enum Asked40 {
     Within(Kv40),
     Refused(u8),
@@ -74,8 +74,8 @@ impl Kv40 {
 
     pub fn new(u: u32) -> Asked40
         ensures value { result ≡ asked40 u }
-        ensures* least { do ⌜ (← (⟦Kv40::LEAST⟧).entry) ≡ least40 ⌝ }
-        ensures* greatest { do ⌜ (← (⟦Kv40::GREATEST⟧).entry) ≡ greatest40 ⌝ }
+        ensures least { Kv40.LEAST ≡ least40 }
+        ensures greatest { Kv40.GREATEST ≡ greatest40 }
     {
         if Kv40::GREATEST < u {
             return Asked40::Refused(3);
@@ -99,7 +99,7 @@ pub fn in_units(thousandths: u32) -> u64
 // ---- how L and H at a viscosity are found
 
 // Which of the two reference oils: the one whose viscosity at 40 °C is L, or the one whose is H.
-#[derive(Drop)]
+#[derive(Clone, Copy)]
 pub enum ReferenceOil {
     L,
     H,
@@ -107,14 +107,14 @@ pub enum ReferenceOil {
 
 // Where a viscosity stands in Table 1: the row at or below it, counted from 0, and how far it is on the way from that row to the
 // next one, in thousandths of the way.
-#[derive(Drop)]
+#[derive(Clone, Copy)]
 pub struct Place {
     pub row: usize,
     pub share: u32,
 }
 
 // How L and H are found: at a place of Table 1, or, above its last row, by the quadratics.
-#[derive(Drop)]
+#[derive(Clone, Copy)]
 pub enum Source {
     Table(Place),
     Quadratics,
@@ -238,7 +238,7 @@ pub fn basis_value(
     source: Source,
 ) -> u64
     requires lent { rows.now ≡ table1 }
-    requires least100_le_thousandths { (least100 ≤ y.thousandths) × (y.thousandths ≤ greatest100) × (source ≡ source_of y.thousandths) }
+    requires asked { (least100 ≤ y.thousandths) × (y.thousandths ≤ greatest100) × (source ≡ source_of y.thousandths) }
     ensures { result ≡ basis_value oil y.thousandths }
 {
     match source {
@@ -248,7 +248,7 @@ pub fn basis_value(
 }
 
 // L and H in units of 10^-10 mm²/s.
-#[derive(Drop)]
+#[derive(Clone, Copy)]
 pub struct Basis {
     pub l: u64,
     pub h: u64,
@@ -275,7 +275,7 @@ pub fn basis_of(y: Kv100) -> Basis
 }
 
 // The answer to the request for L and H: refused by the question of that number, or both values.
-#[derive(Drop)]
+#[derive(Clone, Copy)]
 pub enum BasisAnswer {
     Refused(u8),
     Found(Basis),

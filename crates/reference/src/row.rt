@@ -12,7 +12,7 @@ ghost use Rattle.reference.specs.Rows.{row_found};
 
 // What is found of a viscosity: the row at or below it, counted from 0; the spacing, which is the distance from that row to the next one, in
 // thousandths of a mm²/s; and how far the viscosity is on that way, its share, in thousandths of the way.
-#[derive(Drop)]
+#[derive(Clone, Copy)]
 pub struct FoundRow {
     pub row: usize,
     pub spacing: u32,
