@@ -27,7 +27,7 @@ fn c_of(r: u64) -> u64
 // The logarithm of c(r), for an r at which the code looks.
 pub fn log_c(first: &[u32; LOG_TABLE_SIZE], second: &[u32; LOG_TABLE_SIZE], r: u64) -> u64
     requires lent { LentLogarithms first.now second.now }
-    requires least_index_bound { (100 * least_index + 50 ≤ r) × (r ≤ 100 * most_index + 50) }
+    requires range { (100 * least_index + 50 ≤ r) × (r ≤ 100 * most_index + 50) }
     ensures { (result ≡ log2_of (c r)) × LogOfC result }
 {
     logarithm::log2_scaled(first, second, c_of(r))
@@ -57,7 +57,7 @@ pub fn shown_below(
     p: u64,
 ) -> bool
     requires lent { LentLogarithms first.now second.now }
-    requires least_index_le_k { (least_index ≤ k) × (k ≤ most_index) × (p ≤ most_lower) }
+    requires range { (least_index ≤ k) × (k ≤ most_index) × (p ≤ most_lower) }
     ensures { result ≡ shows_least p (100 * k - 50) }
 {
     if k <= LEAST_INDEX {

@@ -54,7 +54,7 @@ pub fn index_of_fractions(
 ) -> ByB
     requires lent { LentLogarithms first.now second.now }
     requires listed { thresholds.now ≡ threshold_table }
-    requires p_le_most_lower { (p ≤ most_lower) × (p < upper) × (upper ≤ p + 2) }
+    requires fractions { (p ≤ most_lower) × (p < upper) × (upper ≤ p + 2) }
     ensures value { result ≡ chosen_index p upper }
     ensures right { RightIndex result }
 {

@@ -27,7 +27,7 @@ fn try_index(
     upper: u64,
 ) -> Trial
     requires lent { LentLogarithms first.now second.now }
-    requires least_index_le_k { (least_index ≤ k) × (k < most_index) × (p ≤ most_lower) × (upper ≤ most_upper) }
+    requires range { (least_index ≤ k) × (k < most_index) × (p ≤ most_lower) × (upper ≤ most_upper) }
     ensures { result ≡ trial_of k p upper }
 {
     let above = log_c(first, second, 100 * k + 50);
@@ -46,7 +46,7 @@ fn try_index(
 // The search for k by halving, where the guess was wrong.
 fn search(first: &[u32; LOG_TABLE_SIZE], second: &[u32; LOG_TABLE_SIZE], p: u64) -> u64
     requires lent { LentLogarithms first.now second.now }
-    requires p_le_most_lower { p ≤ most_lower }
+    requires few { p ≤ most_lower }
     ensures { result ≡ whole_of p }
 {
     let mut lo: u64 = LEAST_INDEX;
@@ -84,7 +84,7 @@ fn mark_of(
     upper: u64,
 ) -> ByB
     requires lent { LentLogarithms first.now second.now }
-    requires least_index_le_k { (least_index ≤ k) × (k < most_index) × (p ≤ most_lower) × (upper ≤ most_upper) }
+    requires range { (least_index ≤ k) × (k < most_index) × (p ≤ most_lower) × (upper ≤ most_upper) }
     ensures { result ≡ marked_of k p upper }
 {
     if shows_most(log_c(first, second, 100 * k + 50), upper) {
@@ -101,7 +101,7 @@ pub fn searched_index(
     upper: u64,
 ) -> ByB
     requires lent { LentLogarithms first.now second.now }
-    requires p_le_most_lower { (p ≤ most_lower) × (upper ≤ most_upper) }
+    requires few { (p ≤ most_lower) × (upper ≤ most_upper) }
     ensures { result ≡ chosen_index p upper }
 {
     let k = guess(p);

@@ -32,7 +32,7 @@ fn settled_by_thresholds(
     upper: u64,
 ) -> bool
     requires listed { thresholds.now ≡ threshold_table }
-    requires least_index_le_k { (least_index ≤ k) × (p < upper) × (upper ≤ most_upper) }
+    requires range { (least_index ≤ k) × (p < upper) × (upper ≤ most_upper) }
     ensures { result ≡ true → trial_of k p upper ≡ trial.Settled }
 {
     if GREATEST_SETTLED < k {
@@ -49,7 +49,7 @@ fn settled_by_thresholds(
 // processor which took the wrong branch finds out before the guess.
 pub fn settled_index(thresholds: &[u32; THRESHOLDS_TABLE_SIZE], p: u64, upper: u64) -> u64
     requires listed { thresholds.now ≡ threshold_table }
-    requires p_lt_upper { (p < upper) × (upper ≤ most_upper) }
+    requires range { (p < upper) × (upper ≤ most_upper) }
     ensures { (result ≡ 0 → ⊥) → (least_index ≤ result) × (result < most_index) × (trial_of result p upper ≡ trial.Settled) }
 {
     if LAST_THRESHOLD <= p {
