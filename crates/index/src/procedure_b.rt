@@ -57,7 +57,7 @@ fn fractions_of(
     oil: Oil,
 ) -> Fractions
     requires lent { LentLogarithms first.now second.now }
-    requires oil_below_h { OilBelowH oil }
+    requires below_h { OilBelowH oil }
     ensures { FoundFractions oil.u oil.y result.lower result.upper }
 {
     let ly = logarithm::log2_scaled(first, second, oil.y as u64);
@@ -77,7 +77,7 @@ pub fn procedure_b_with_tables(
 ) -> ByB
     requires lent { LentLogarithms first.now second.now }
     requires listed { thresholds.now ≡ threshold_table }
-    requires oil_below_h { OilBelowH oil }
+    requires below_h { OilBelowH oil }
     ensures { result ≡ answer_by_b oil.u oil.y }
 {
     let n = fractions_of(first, second, oil);
