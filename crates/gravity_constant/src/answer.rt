@@ -13,7 +13,7 @@ use laws::signed_difference;
 use logarithm::LOG_TABLE_SIZE;
 
 // The constant in thousandths, and the numerators of the two fractions over Q that enclose the logarithm.
-#[derive(Drop)]
+#[derive(Clone, Copy)]
 pub struct Constant {
     pub thousandths: i32,
     pub lower: i32,
@@ -21,7 +21,7 @@ pub struct Constant {
 }
 
 // The answer: refused by the question of that number, or the constant.
-#[derive(Drop)]
+#[derive(Clone, Copy)]
 pub enum ConstantAnswer {
     Refused(u8),
     Found(Constant),
@@ -62,7 +62,7 @@ fn answer_passed_with_tables(
     oil: Oil,
 ) -> ConstantAnswer
     requires lent { LentLogarithms first.now second.now }
-    requires oil_passes { OilPasses oil }
+    requires passes { OilPasses oil }
     ensures { result ≡ answer_of oil.viscosity.temperature oil.viscosity.thousandths oil.density.tenthousandths }
 {
     let viscosity = oil.viscosity;

@@ -34,7 +34,7 @@ pub fn lower_of(
     v: u32,
 ) -> u64
     requires lent { LentLogarithms first.now second.now }
-    requires t_bound { (least_viscosity t ≤ v) × (v ≤ greatest_viscosity t) }
+    requires range { (least_viscosity t ≤ v) × (v ≤ greatest_viscosity t) }
     ensures { (result ≡ lower_of t v) × (result + apart ≤ most_upper t) }
 {
     lower_from(logarithm::log2_scaled(first, second, argument_of(t, v)))

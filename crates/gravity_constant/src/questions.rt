@@ -4,21 +4,21 @@ ghost use Rattle.gravity_constant.specs.Questions.{least_viscosity, greatest_vis
 ghost use Rattle.gravity_constant.specs.declared.questions.Temperature.TheVariants.{At40, At100};
 
 // The temperature at which the viscosity was measured.
-#[derive(Drop)]
+#[derive(Clone, Copy)]
 pub enum Temperature {
     At40,
     At100,
 }
 
 // A kinematic viscosity within the range of its temperature, in thousandths of a mm²/s.
-#[derive(Drop)]
+#[derive(Clone, Copy)]
 pub struct Viscosity {
     pub temperature: Temperature,
     pub thousandths: u32,
 }
 
 // What question 21 says of a number: a viscosity within its limits, or refused by the question of that number.
-#[derive(Drop)]
+#[derive(Clone, Copy)]
 pub enum AskedViscosity {
     Within(Viscosity),
     Refused(u8),
@@ -35,10 +35,10 @@ impl Viscosity {
 
     pub fn new(temperature: Temperature, v: u32) -> AskedViscosity
         ensures value { result ≡ asked_viscosity temperature v }
-        ensures* least40 { do ⌜ (← (⟦Viscosity::LEAST_AT_40⟧).entry) ≡ least_viscosity At40 ⌝ }
-        ensures* greatest40 { do ⌜ (← (⟦Viscosity::GREATEST_AT_40⟧).entry) ≡ greatest_viscosity At40 ⌝ }
-        ensures* least100 { do ⌜ (← (⟦Viscosity::LEAST_AT_100⟧).entry) ≡ least_viscosity At100 ⌝ }
-        ensures* greatest100 { do ⌜ (← (⟦Viscosity::GREATEST_AT_100⟧).entry) ≡ greatest_viscosity At100 ⌝ }
+        ensures least40 { Viscosity.LEAST_AT_40 ≡ least_viscosity At40 }
+        ensures greatest40 { Viscosity.GREATEST_AT_40 ≡ greatest_viscosity At40 }
+        ensures least100 { Viscosity.LEAST_AT_100 ≡ least_viscosity At100 }
+        ensures greatest100 { Viscosity.GREATEST_AT_100 ≡ greatest_viscosity At100 }
     {
         if v < least_viscosity(temperature) {
             return AskedViscosity::Refused(21);
@@ -72,13 +72,13 @@ fn greatest_viscosity(t: Temperature) -> u32
 }
 
 // A density at 15 °C, in 0.0001 g/ml.
-#[derive(Drop)]
+#[derive(Clone, Copy)]
 pub struct Density {
     pub tenthousandths: u32,
 }
 
 // What question 22 says of a number.
-#[derive(Drop)]
+#[derive(Clone, Copy)]
 pub enum AskedDensity {
     Within(Density),
     Refused(u8),
@@ -91,8 +91,8 @@ impl Density {
 
     pub fn new(d: u32) -> AskedDensity
         ensures value { result ≡ asked_density d }
-        ensures* least { do ⌜ (← (⟦Density::LEAST⟧).entry) ≡ least_density ⌝ }
-        ensures* greatest { do ⌜ (← (⟦Density::GREATEST⟧).entry) ≡ greatest_density ⌝ }
+        ensures least { Density.LEAST ≡ least_density }
+        ensures greatest { Density.GREATEST ≡ greatest_density }
     {
         if d < Density::LEAST {
             return AskedDensity::Refused(22);
@@ -105,14 +105,14 @@ impl Density {
 }
 
 // An oil whose viscosity and density are within their limits.
-#[derive(Drop)]
+#[derive(Clone, Copy)]
 pub struct Oil {
     pub viscosity: Viscosity,
     pub density: Density,
 }
 
 // What questions 21 and 22 say: refused by the question of that number, or passed.
-#[derive(Drop)]
+#[derive(Clone, Copy)]
 pub enum Asked {
     Refused(u8),
     Passed(Oil),
