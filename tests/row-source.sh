@@ -14,8 +14,8 @@ miss() { echo "row source: $*"; bad=1; }
 # code FILE: its lines without comments. A quotation mark, behind which `//` would be no comment, counts as an array.
 code() { sed -e 's,//.*,,' "$1"; }
 
-# statements FILE: the code without the lines that hold a contract or the names it cites, and nothing else.
-statements() { code "$1" | grep -vE '^(ghost use [^;]*;|    (requires|ensures) \{[^{}]*\})$'; }
+# statements FILE: the code without the lines that hold a contract or the names it cites, or that say a type is copied, and nothing else.
+statements() { code "$1" | grep -vE '^(ghost use [^;]*;|#\[derive\(Clone, Copy\)\]|    (requires|ensures) \{[^{}]*\})$'; }
 
 # found FILE CALLABLE ..: what is in the file that must not be, a line each. CALLABLE are the functions that it may call beside its own.
 found() {
@@ -70,6 +70,8 @@ bites '<' 'let first = (y<SECOND_FROM) as u32;'
 bites '>' 'let second = (y >'
 bites '==' 'let first = (left == 3) as u32;'
 bites '<' 'ensures { x } let first = y < SECOND_FROM;'
+bites '<' '#[derive(Clone, Copy)] let first = y < SECOND_FROM;'
+bites 'derive' '#[derive(Ord)]'
 bites '[' 'let spacing = [100, 200, 500];'
 bites '"' 'let rates = b"abc";'
 bites '![' 'let rates = vec![10, 5, 2];'
