@@ -5,7 +5,7 @@ ghost use Rattle.index.specs.Answer.{number_of, method_of, method_of_mark, index
 use shown_index::{ByB, Mark};
 
 // The answer to a pair: refused by the question of that number; by procedure A with the index; by procedure B.
-#[derive(Drop)]
+#[derive(Clone, Copy)]
 pub enum Answer {
     Refused(u8),
     A(i32),

@@ -13,7 +13,7 @@ use logarithm::{LOG_1000, LOG_TABLE_SIZE, Q, WIDTH};
 use shown_index::{ByB, THRESHOLDS_TABLE_SIZE};
 
 // An oil below H: its two viscosities in thousandths of a mm²/s, and H in units of 10^-10 mm²/s.
-#[derive(Drop)]
+#[derive(Clone, Copy)]
 pub struct Oil {
     pub u: u32,
     pub y: u32,
@@ -21,7 +21,7 @@ pub struct Oil {
 }
 
 // The two fractions of an oil, as their numerators over Q.
-#[derive(Drop)]
+#[derive(Clone, Copy)]
 pub struct Fractions {
     pub lower: u64,
     pub upper: u64,

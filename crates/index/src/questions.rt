@@ -6,14 +6,14 @@ ghost use Rattle.index.specs.Questions.{asked_of};
 use reference::{Asked40, Asked100, Kv40, Kv100};
 
 // The two viscosities of a pair, each within its limits.
-#[derive(Drop)]
+#[derive(Clone, Copy)]
 pub struct Viscosities {
     pub u: Kv40,
     pub y: Kv100,
 }
 
 // What questions 1 to 4 say of a pair: refused by the question of that number, or passed.
-#[derive(Drop)]
+#[derive(Clone, Copy)]
 pub enum Asked {
     Refused(u8),
     Passed(Viscosities),

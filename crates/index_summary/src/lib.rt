@@ -23,7 +23,7 @@ const ABOVE_ALL: i64 = 4_294_967_296;
 const BELOW_ALL: i64 = -4_294_967_297;
 
 // A summary of answers. 64 bits hold every index and the sum of very many.
-#[derive(Drop)]
+#[derive(Clone, Copy)]
 pub struct Summary {
     pub lowest: i64,
     pub highest: i64,

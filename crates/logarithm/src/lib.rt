@@ -80,7 +80,7 @@ pub const LOG_10_7: u64 = 1_597_968_123_046;
 pub const Q: u64 = 16_777_216;
 
 // What a level leaves of a mantissa, and the logarithm of the factor that it took out.
-#[derive(Drop)]
+#[derive(Clone, Copy)]
 struct Reduced {
     mantissa: u64,
     log: u64,

@@ -17,14 +17,14 @@ pub use work::pair_at;
 use work::work_blocks;
 
 // The answer to a sheet: refused by the question of that number, or accepted with its count of pairs.
-#[derive(Drop)]
+#[derive(Clone, Copy)]
 pub enum SheetAnswer {
     Refused(u8),
     Accepted(u32),
 }
 
 // A pair, in thousandths of a mm²/s: the viscosity at 40 °C and the one at 100 °C.
-#[derive(Drop)]
+#[derive(Clone, Copy)]
 pub struct Pair {
     pub u: u32,
     pub y: u32,

@@ -28,14 +28,14 @@ const LEAST_INDEX: u64 = 100;
 const MOST_INDEX: u64 = 10_000;
 
 // How sure an index of procedure B is: document 01's terms "settled" and "near".
-#[derive(Drop)]
+#[derive(Clone, Copy)]
 pub enum Mark {
     Settled,
     Near,
 }
 
 // What procedure B answers: the index, from 100 to 10,000; its mark; and p (lower) and P (upper), the numerators of its two fractions over Q.
-#[derive(Drop)]
+#[derive(Clone, Copy)]
 pub struct ByB {
     pub index: u32,
     pub mark: Mark,

@@ -10,7 +10,7 @@ use crate::{ByB, LEAST_INDEX, MOST_INDEX, Mark};
 use logarithm::LOG_TABLE_SIZE;
 
 // What trying k says of the index: k is settled, k + 1 is near, the index is higher, or it is lower.
-#[derive(Drop)]
+#[derive(Clone, Copy)]
 pub enum Trial {
     Settled,
     Near,

@@ -28,7 +28,7 @@ const TRAY_FULL: u8 = 32;
 const NUMBER_NOT_HELD: u8 = 33;
 
 // What taking out answers: refused by the question of that number, or the sample.
-#[derive(Drop)]
+#[derive(Clone, Copy)]
 pub enum Taken {
     Refused(u8),
     Out(Sample),

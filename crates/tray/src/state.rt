@@ -9,7 +9,7 @@ use index_summary::{Summary, joined, nothing};
 use tray_places::{PLACES, TRAY_SIZE, is_free, place_at, sample_of};
 
 // What asking for the state answers: refused by the question of that number, that the tray is empty, or what it holds comes to.
-#[derive(Drop)]
+#[derive(Clone, Copy)]
 pub enum State {
     Refused(u8),
     Empty,

@@ -10,7 +10,7 @@ use index::answer::{METHOD_A, METHOD_B_SETTLED, method_of};
 use shown_index::{ByB, Mark};
 
 // A sample: its number, its pair and its answer.
-#[derive(Drop)]
+#[derive(Clone, Copy)]
 pub struct Sample {
     pub number: u32,
     pub u: u32,
@@ -19,7 +19,7 @@ pub struct Sample {
 }
 
 // A sample as a place has it: the method, 0 where the place is free; the number; the pair; the index as 32 bits; p and P.
-#[derive(Drop)]
+#[derive(Clone, Copy)]
 pub struct Place {
     pub method: u32,
     pub number: u32,
