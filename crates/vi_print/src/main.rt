@@ -2,15 +2,14 @@
 // crate `report`'s promise.
 #![tactic(auto)]
 
-use libc::STDIN_FILENO;
-
-fn main() {
-    if !streams::can_read() {
+fn main(rt: HostRuntime) {
+    if !streams::can_read(&rt) {
         return;
     }
-    let mut input = [0u8; report::INPUT_SIZE];
-    let read = io::read_full(STDIN_FILENO, &mut input);
+    let Some(mut input) = streams::read_input(&rt, report::INPUT_SIZE as u64) else {
+        return;
+    };
     let mut text = [0u8; report::TEXT_SIZE];
-    let count = report::print_sheet(&mut input[..read], &mut text);
-    streams::write_output(&text[..count]);
+    let count = report::print_sheet(&mut input, &mut text);
+    streams::write_output(&rt, &text[..count]);
 }

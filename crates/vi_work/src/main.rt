@@ -2,27 +2,28 @@
 // `sheet`'s promise. A sheet that is refused, and input that vi_print would not work either, is not written: standard error says so.
 #![tactic(auto)]
 
-use libc::STDIN_FILENO;
 use sheet::SheetAnswer;
 
-fn work(input: &mut [u8]) {
+fn work(rt: &(impl Print + Eprint), input: &mut [u8]) {
     if input.len() > report::MOST_INPUT {
-        streams::say(b"not worked: the input is longer than 65,536 bytes\n");
+        streams::say(rt, "not worked: the input is longer than 65,536 bytes");
         return;
     }
     match sheet::work_sheet(input) {
-        SheetAnswer::Accepted(_) => streams::write_output(input),
+        SheetAnswer::Accepted(_) => streams::write_output(rt, input),
         SheetAnswer::Refused(_) => streams::say(
-            b"not worked: the sheet is refused; vi_print prints the number\n",
+            rt,
+            "not worked: the sheet is refused; vi_print prints the number",
         ),
     }
 }
 
-fn main() {
-    if !streams::can_read() {
+fn main(rt: HostRuntime) {
+    if !streams::can_read(&rt) {
         return;
     }
-    let mut input = [0u8; report::INPUT_SIZE];
-    let read = io::read_full(STDIN_FILENO, &mut input);
-    work(&mut input[..read]);
+    let Some(mut input) = streams::read_input(&rt, report::INPUT_SIZE as u64) else {
+        return;
+    };
+    work(&rt, &mut input);
 }
