@@ -1,6 +1,5 @@
 -- The first four bytes and three numbers, one behind the other, are the record laid out.
 use native.Mathlib.Omega.{arith}
-use borrow.Author.Rules.{rules}
 use Rattle.answer_record.specs.Bytes.{bytes_of}
 use Rattle.answer_record.specs.Record.{head_of, laid_out_bytes}
 use Rattle.answer_record.proofs.Stores.{stored_then}

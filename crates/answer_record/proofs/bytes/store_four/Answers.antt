@@ -1,7 +1,6 @@
 -- Four stores, one behind the other.
 use native.Mathlib.Omega.{arith}
 use native.Mathlib.Numerals.{add-one}
-use borrow.Author.Rules.{rules}
 use lib.ListN.{length-set}
 use Rattle.answer_record.specs.Bytes.{stored}
 use Rattle.answer_record.proofs.Stores.{add_two, add_three}
