@@ -5,7 +5,5 @@ cd "$(dirname "$0")/.."
 work=$(mktemp -d)
 trap 'rm -rf "$work"' EXIT
 
-for program in vi_print vi_work; do
-    rt check "$program" >"$work/check.log" 2>&1 || { tail -n 5 "$work/check.log"; exit 1; }
-done
+tools/build vi_print vi_work >"$work/check.log" 2>&1 || { tail -n 5 "$work/check.log"; exit 1; }
 python3 tests/method.py target/bin/vi_print target/bin/vi_work

@@ -7,7 +7,7 @@ trap 'rm -rf "$work"' EXIT
 bad=0
 miss() { echo "pictures: $*"; bad=1; }
 
-rt check vi_work >"$work/check.log" 2>&1 || { tail -n 5 "$work/check.log"; exit 1; }
+tools/build vi_work >"$work/check.log" 2>&1 || { tail -n 5 "$work/check.log"; exit 1; }
 tools/pictures "$work/drawn" || exit 1
 names=$({ ls "$work/drawn"; ls docs/pictures; } | sort -u)
 for name in $names; do

@@ -131,29 +131,36 @@ expect "saving to a full disk" 1 "$three" "^print: not saved: .* could not be wr
 holds "a full disk changes no file" cmp "$save/own" crates/vi_work/stdout
 holds "files are left behind in the folder that is saved to" test "$(ls -A "$save" | tr '\n' ' ')" = "own pipe second worked "
 
-# ---- a clone that is not built yet, with an rt that takes no time, or as long as the file `slow` says. As the real one does, it starts something that
-# does not hear an interrupt, and it fails where another runs.
-mkdir -p "$work/fresh/docs" "$work/bin"
-cp "$root/print" "$work/fresh/print"
-cp "$root/docs/print-help.txt" "$work/fresh/docs"
-cp "$root/samples/three.sheet" "$work/fresh"
+# ---- a clone that is not built yet, with an rt that takes no time, or as long as the file `slow` says. As the real one does, it builds one program and runs
+# it, and it starts something that does not hear an interrupt. It fails where another runs.
+fresh=$work/fresh
+mkdir -p "$fresh/docs" "$fresh/tools" "$work/bin"
+cp "$root/print" "$fresh/print"
+cp "$root/tools/build" "$fresh/tools"
+cp "$root/docs/print-help.txt" "$fresh/docs"
+cp "$root/samples/three.sheet" "$fresh"
+for program in vi_print vi_work; do
+    mkdir -p "$fresh/crates/$program"
+    cp "$root/crates/$program/stdin" "$fresh/crates/$program"
+done
 cat >"$work/bin/rt" <<'END'
 #!/bin/sh
-[ "$*" = "check vi_print vi_work" ] || exit 2
-[ -e refuse ] && { echo "logic=not-proved"; echo "rt: FAILED: report"; exit 1; }
-mkdir busy || { echo "rt: FAILED: two at a time"; exit 1; }
-if [ -e slow ]; then
-    sleep "$(cat slow)" &
-    echo "$$ $!" >pids
+[ "$*" = run ] || exit 2
+program=out/$(basename "$PWD")
+top=../..
+[ -e $top/refuse ] && { echo "logic=not-proved"; echo "rt: the library report did not build, so nothing above it was checked"; exit 1; } >&2
+mkdir $top/busy || { echo "rt: two at a time" >&2; exit 1; }
+if [ -e $top/slow ]; then
+    sleep "$(cat $top/slow)" &
+    echo "$$ $!" >$top/pids
     wait
 fi
-echo "rt: laws proved (1 s)"
-mkdir -p target/bin
-for program in vi_print vi_work; do
-    printf '#!/bin/sh\n[ ! -e fault ] || echo "standard output: No space left on device" >&2\nwc -c\n' >target/bin/$program
-    chmod +x target/bin/$program
-done
-rmdir busy
+{ echo "crate laws: modules loaded=0 checked=10"; echo "logic=proved functions=1"; } >&2
+mkdir -p out
+printf '#!/bin/sh\n[ ! -e fault ] || echo "standard output: No space left on device" >&2\nwc -c\n' >$program
+chmod +x $program
+$program
+rmdir $top/busy
 END
 chmod +x "$work/bin/rt"
 PATH=$work/bin:$PATH
@@ -161,7 +168,7 @@ cd "$work/fresh" || exit 1
 expect "a first build" 0 $'88\n' "^print: proving and building the printing program; the first time" ./print three.sheet
 expect "the crates as they are proved" 0 $'88\n' "^print: laws proved" ./print three.sheet
 touch refuse
-expect "a build that fails" 1 "" "^rt: FAILED: report" ./print three.sheet
+expect "a build that fails" 1 "" "^rt: the library report did not build" ./print three.sheet
 rm refuse
 touch fault
 expect "a program that says what failed" 1 "" "^print: the program vi_print failed: standard output: No space" ./print three.sheet
@@ -246,6 +253,10 @@ if "${other[@]}" test -x "$work/fresh/print"; then
         "${other[@]}" ./print three.sheet
     chmod -R u+w target
     ./print three.sheet >/dev/null 2>&1
+    [ "$(id -u)" -eq 0 ] && chmod -R a+w target || chmod a-w crates/vi_print/out
+    expect "a built program, and crates of another user" 0 $'88\n' "^print: the folder .*crates/vi_print.* cannot be written: the programs run as they are" \
+        "${other[@]}" ./print three.sheet
+    chmod u+w crates/vi_print/out
 else
     echo "print-command: root cannot run a command as another user here; the checks of another user are left out"
 fi

@@ -1,12 +1,12 @@
 #!/usr/bin/env bash
-# vi_print and vi_work where input or output fails, and what vi_work writes for the samples. Both always end with status 0, as every program of
-# Rattle: what failed stands on standard error, and nothing on standard output.
+# vi_print and vi_work where input or output fails, and what vi_work writes for the samples. Both always end with status 0: what failed stands on
+# standard error, and nothing on standard output.
 set -u
 root=$(cd "$(dirname "$0")/.." && pwd)
 work=$(mktemp -d)
 trap 'rm -rf "$work"' EXIT
 cd "$root" || exit 1
-rt check vi_print vi_work >"$work/log" 2>&1 || { tail -n 5 "$work/log"; exit 1; }
+tools/build vi_print vi_work >"$work/log" 2>&1 || { tail -n 5 "$work/log"; exit 1; }
 checks=0
 bad=0
 
@@ -30,6 +30,7 @@ for program in vi_print vi_work; do
     run=target/bin/$program
     says "$program, a folder" '^standard input: Is a directory' "$run <samples"
     says "$program, a closed input" '^standard input: Bad file descriptor' "$run <&-"
+    says "$program, a read that fails" '^standard input: Input/output error' "exec </proc/self/mem; $run; true"
     says "$program, a full disk" '^standard output: No space left' "$run <samples/three.sheet >/dev/full"
     says "$program, a closed output" '^standard output: Bad file descriptor' "$run <samples/three.sheet >&-"
 done
