@@ -15,7 +15,7 @@ use Rattle.gravity_constant.specs.declared.questions.Temperature.{Temperature}
 use Rattle.gravity_constant.specs.declared.answer.ConstantAnswer.{ConstantAnswer}
 use Rattle.gravity_constant.specs.Answer.{number_of, RightConstant}
 use Rattle.gravity_constant.specs.Chosen.{answer_of}
-use Rattle.constant_row.specs.ConstantCall.{row_size, not_arow, filled_by, row_number, row_after, ConstantCall, NoRow}
+use Rattle.constant_row.specs.ConstantCall.{row_size, not_a_row, filled_by, row_number, row_after, ConstantCall, NoRow}
 
 pub no_row : NoRow
 unfolding row_number row_after
@@ -42,7 +42,7 @@ Answers lent t v d number after = (number ≡ row_number lent t v d) × ((after 
 
 module _ (lent : List ℤ) (t : Temperature) (v d : ℕ) where
   -- a row of another length
-  pub untouched : (length lent ≡ row_size → ⊥) → Answers lent t v d not_arow lent
+  pub untouched : (length lent ≡ row_size → ⊥) → Answers lent t v d not_a_row lent
   unfolding row_number row_after
   untouched other = (
     simp (ne_eqb _ _ other),

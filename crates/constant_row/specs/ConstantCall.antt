@@ -18,8 +18,8 @@ row_size = 3
 abbrev pub just3 : List ℤ → Bool
 just3 lent = eqb (length lent) row_size
 
-abbrev pub not_arow : ℕ
-not_arow = 5
+abbrev pub not_a_row : ℕ
+not_a_row = 5
 
 -- a row: k, then the lower and the upper numerator
 abbrev pub row_of : Constant → List ℤ
@@ -32,7 +32,7 @@ filled_by lent (Found c) = row_of c
 
 -- what the call answers
 unfoldable pub row_number : List ℤ → Temperature → ℕ → ℕ → ℕ
-row_number lent t v d = ask (just3 lent) not_arow (number_of (answer_of t v d))
+row_number lent t v d = ask (just3 lent) not_a_row (number_of (answer_of t v d))
 
 -- the row afterwards
 unfoldable pub row_after : List ℤ → Temperature → ℕ → ℕ → List ℤ
@@ -48,7 +48,7 @@ pub record Filled (t : Temperature) (v d : ℕ) (lent : List ℤ) (number : ℕ)
 -- what the call answers and leaves, whatever is lent
 pub record ConstantCall (t : Temperature) (v d : ℕ) (lent : List ℤ) (number : ℕ) (after : List ℤ) : Type 0 where
   pub just_3 : length lent ≡ row_size → Filled t v d lent number after
-  pub not_3 : (length lent ≡ row_size → ⊥) → (number ≡ not_arow) × (after ≡ lent)
+  pub not_3 : (length lent ≡ row_size → ⊥) → (number ≡ not_a_row) × (after ≡ lent)
 
 -- document 01's "(no: 5, record untouched)", of a row: one of no numbers, whatever is asked
 pub record NoRow : Type 0 where
