@@ -137,8 +137,8 @@ held_in tray = among (is_held tray) (sample_at tray) places
 -- ---- its questions: "31 number already held, 32 tray full, both after the pair's own questions; 33 number not held, on taking out"
 
 -- their numbers: the lent memory is no tray; "31 number already held, 32 tray full"; "33 number not held"
-abbrev pub not_atray : ℕ
-not_atray = 5
+abbrev pub not_a_tray : ℕ
+not_a_tray = 5
 
 abbrev pub held_refusal : ℕ
 held_refusal = 31
@@ -183,11 +183,11 @@ hold_refusal tray number pair =
 
 -- and the size of the lent memory before them
 unfoldable pub put_refusal : List ℕ → ℕ → ℕ → ℕ → ℕ
-put_refusal tray number u y = ask (is_tray tray) not_atray (hold_refusal tray number (refusal u y))
+put_refusal tray number u y = ask (is_tray tray) not_a_tray (hold_refusal tray number (refusal u y))
 
 -- the questions to a take: "33 number not held"
 unfoldable pub take_refusal : List ℕ → ℕ → ℕ
-take_refusal tray number = ask (is_tray tray) not_atray (ask (ltb 0 (held_as tray number)) not_held_refusal 0)
+take_refusal tray number = ask (is_tray tray) not_a_tray (ask (ltb 0 (held_as tray number)) not_held_refusal 0)
 
 -- ---- putting in, taking out, and the state
 
@@ -229,7 +229,7 @@ state_after state [] = state
 state_after state (s ∷ samples) = state_after (with_answer state s.answer) samples
 
 unfoldable pub state_of : List ℕ → State
-state_of tray = cond (is_tray tray) (state_after state.Empty (held_in tray)) (state.Refused not_atray)
+state_of tray = cond (is_tray tray) (state_after state.Empty (held_in tray)) (state.Refused not_a_tray)
 
 -- ---- running a list of calls
 

@@ -33,7 +33,7 @@ use Rattle.tray.specs.declared.Taken.TheVariants as taken
 use Rattle.tray.specs.declared.state.State.{State}
 use Rattle.tray.specs.declared.state.State.TheVariants.{Refused, Empty, Holding}
 use Rattle.tray.specs.Tray as places
-use Rattle.tray.specs.Tray.{not_atray}
+use Rattle.tray.specs.Tray.{not_a_tray}
 use Rattle.tray.specs.State as walk
 use Rattle.tray.specs.State.{with_answer, state_after, summary_in}
 use Rattle.tray.specs.Calls as before
@@ -182,7 +182,7 @@ any_memory l h = record {
       (out_keeps l n h o (numbers_small l h f) (too_large_walked (kept_in l) s.answer (places.tray_after_take (places_in l) n) e).1);
 }
 
-pub state_5 : (l : List ℕ) → (length l ≡ tray_size → ⊥) → state_of l ≡ Refused not_atray
+pub state_5 : (l : List ℕ) → (length l ≡ tray_size → ⊥) → state_of l ≡ Refused not_a_tray
 unfolding state_of
 state_5 l h = rw (ne_eqb (length l) tray_size h)
 

@@ -36,7 +36,7 @@ use Rattle.tray_places.proofs.SamplesBack.{sample_again}
 use Rattle.tray.specs.declared.Taken.{Taken}
 use Rattle.tray.specs.declared.Taken.TheVariants as taken
 use Rattle.tray.specs.Tray as places
-use Rattle.tray.specs.Tray.{not_atray}
+use Rattle.tray.specs.Tray.{not_a_tray}
 use Rattle.tray.specs.Calls.{Put, Take}
 use Rattle.tray.proofs.EveryList.{put_alone, every_call}
 use Rattle.tray.proofs.Walk.{index_small}
@@ -272,10 +272,10 @@ module _ (l : List ℕ) (n : ℕ) where
 
   -- ---- other memory
   module _ (other : length l ≡ tray_size → ⊥) where
-    pub put_5 : (u y : ℕ) → (answer.Refused not_atray ≡ put_answer l n u y) × (l ≡ tray_after_put l n u y)
+    pub put_5 : (u y : ℕ) → (answer.Refused not_a_tray ≡ put_answer l n u y) × (l ≡ tray_after_put l n u y)
     unfolding put_answer tray_after_put
     put_5 u y = let no = ne_eqb (length l) tray_size other in (rw no, rw no)
 
-    pub take_5 : (taken.Refused not_atray ≡ take_answer l n) × (l ≡ tray_after_take l n)
+    pub take_5 : (taken.Refused not_a_tray ≡ take_answer l n) × (l ≡ tray_after_take l n)
     unfolding take_answer tray_after_take
     take_5 = let no = ne_eqb (length l) tray_size other in (rw no, rw no)

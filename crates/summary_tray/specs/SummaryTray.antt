@@ -17,7 +17,7 @@ use Rattle.tray.specs.declared.Taken.TheVariants as taken
 use Rattle.tray.specs.declared.state.State.{State}
 use Rattle.tray.specs.declared.state.State.TheVariants as state
 use Rattle.tray.specs.Tray as places
-use Rattle.tray.specs.Tray.{not_atray}
+use Rattle.tray.specs.Tray.{not_a_tray}
 use Rattle.tray.specs.State.{state_after, summary_in, state_with}
 
 -- ---- the lent memory
@@ -48,7 +48,7 @@ kept_in tray = summary_from (drop places_size tray)
 -- "a refresh answers from them alone": the size of the lent memory is asked for first (no: 5), then what the kept numbers say; "with none held the tray still says
 -- so"
 unfoldable pub state_of : List ℕ → State
-state_of tray = cond (is_tray tray) (state_with (kept_in tray)) (state.Refused not_atray)
+state_of tray = cond (is_tray tray) (state_with (kept_in tray)) (state.Refused not_a_tray)
 
 -- ---- how the summary is kept
 
@@ -77,7 +77,7 @@ keeping places t = places ++ block_of t
 
 -- the answer is that of the places
 unfoldable pub put_answer : List ℕ → ℕ → ℕ → ℕ → Answer
-put_answer tray number u y = cond (is_tray tray) (places.put_answer (places_in tray) number u y) (answer.Refused not_atray)
+put_answer tray number u y = cond (is_tray tray) (places.put_answer (places_in tray) number u y) (answer.Refused not_a_tray)
 
 -- the tray with an answer more, in these places
 abbrev pub tray_with : List ℕ → List ℕ → Answer → List ℕ
@@ -101,7 +101,7 @@ tray_holding tray number pair place =
 -- ---- taking out
 
 unfoldable pub take_answer : List ℕ → ℕ → Taken
-take_answer tray number = cond (is_tray tray) (places.take_answer (places_in tray) number) (taken.Refused not_atray)
+take_answer tray number = cond (is_tray tray) (places.take_answer (places_in tray) number) (taken.Refused not_a_tray)
 
 -- the tray with an answer less, in these places
 abbrev pub tray_without : List ℕ → List ℕ → Taken → List ℕ

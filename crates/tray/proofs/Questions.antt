@@ -22,7 +22,7 @@ use Rattle.tray_places.specs.Places.{places, place_size, tray_size, numbers_of, 
 use Rattle.tray_places.specs.Samples.{place_of}
 use Rattle.tray_places.proofs.Found.{some_free, none_free, number_held, number_not_held}
 use Rattle.tray.specs.declared.Taken.TheVariants as taken
-use Rattle.tray.specs.Tray.{not_atray, held_refusal, full_refusal, not_held_refusal, first_no, held_as, sample_with, tray_with, hold_refusal, tray_holding, put_refusal, put_answer, tray_after_put, take_refusal, take_answer, tray_after_take}
+use Rattle.tray.specs.Tray.{not_a_tray, held_refusal, full_refusal, not_held_refusal, first_no, held_as, sample_with, tray_with, hold_refusal, tray_holding, put_refusal, put_answer, tray_after_put, take_refusal, take_answer, tray_after_take}
 
 some : (k : ℕ) → 0 < k → eqb k 0 ≡ false
 some k p = ne_eqb k 0 (λ (z : k ≡ 0). omega arith)
@@ -97,7 +97,7 @@ module _ (l : List ℕ) (n : ℕ) where
 
   -- ---- putting in
   module _ (u y : ℕ) where
-    put_size : (length l ≡ tray_size → ⊥) → put_refusal l n u y ≡ not_atray
+    put_size : (length l ≡ tray_size → ⊥) → put_refusal l n u y ≡ not_a_tray
     unfolding put_refusal
     put_size h = rw (ne_eqb (length l) tray_size h)
 
@@ -115,8 +115,8 @@ module _ (l : List ℕ) (n : ℕ) where
     unfolding put_answer tray_after_put
     put_passed e = (rw e, rw e)
 
-    pub put_5 : (length l ≡ tray_size → ⊥) → (answer.Refused not_atray ≡ put_answer l n u y) × (l ≡ tray_after_put l n u y)
-    put_5 h = let by = put_by not_atray (put_size h) (omega arith) in (sym by.0, sym by.1)
+    pub put_5 : (length l ≡ tray_size → ⊥) → (answer.Refused not_a_tray ≡ put_answer l n u y) × (l ≡ tray_after_put l n u y)
+    put_5 h = let by = put_by not_a_tray (put_size h) (omega arith) in (sym by.0, sym by.1)
 
     -- from what `hold` answers and leaves
     module _ {a : Answer} {k pair : ℕ} {p : Place} {m : List ℕ} (h : length l ≡ tray_size) (a_is : a ≡ answer_of u y) (is_right : RightAnswer u y a)
@@ -138,7 +138,7 @@ module _ (l : List ℕ) (n : ℕ) where
           (a_is ∙ sym by.0, rw (none, p-is, a_is) at m-is ∙ sym by.1)
 
   -- ---- taking out
-  take_size : (length l ≡ tray_size → ⊥) → take_refusal l n ≡ not_atray
+  take_size : (length l ≡ tray_size → ⊥) → take_refusal l n ≡ not_a_tray
   unfolding take_refusal
   take_size h = rw (ne_eqb (length l) tray_size h)
 
@@ -160,8 +160,8 @@ module _ (l : List ℕ) (n : ℕ) where
   unfolding take_answer tray_after_take
   take_passed e = (rw e, rw e)
 
-  pub take_5 : (length l ≡ tray_size → ⊥) → (taken.Refused not_atray ≡ take_answer l n) × (l ≡ tray_after_take l n)
-  take_5 h = let by = take_by not_atray (take_size h) (omega arith) in (sym by.0, sym by.1)
+  pub take_5 : (length l ≡ tray_size → ⊥) → (taken.Refused not_a_tray ≡ take_answer l n) × (l ≡ tray_after_take l n)
+  take_5 h = let by = take_by not_a_tray (take_size h) (omega arith) in (sym by.0, sym by.1)
 
   pub take_33 : {i : ℕ} → length l ≡ tray_size → i ≡ place_of_number l n → places ≤ i → (taken.Refused not_held_refusal ≡ take_answer l n) × (l ≡ tray_after_take l n)
   take_33 h e k = let by = take_by not_held_refusal (no_33 h (number_not_held l n (rw e at k))) (omega arith) in (sym by.0, sym by.1)

@@ -8,7 +8,7 @@ use Rattle.tray_places.specs.declared.samples.Sample.{Sample}
 use Rattle.tray_places.specs.Places.{is_held, sample_at, held_in}
 use Rattle.tray.specs.declared.state.State.{State}
 use Rattle.tray.specs.declared.state.State.TheVariants.{Refused, Empty, Holding}
-use Rattle.tray.specs.Tray.{not_atray, is_tray}
+use Rattle.tray.specs.Tray.{not_a_tray, is_tray}
 
 -- ---- the walk
 
@@ -25,7 +25,7 @@ state_after state (s ∷ samples) = state_after (with_answer state s.answer) sam
 
 -- the state of a tray: the size of the lent memory is asked for first (no: 5), then the samples held are walked
 unfoldable pub state_of : List ℕ → State
-state_of tray = cond (is_tray tray) (state_after Empty (held_in tray)) (Refused not_atray)
+state_of tray = cond (is_tray tray) (state_after Empty (held_in tray)) (Refused not_a_tray)
 
 -- ---- when a state is right, whatever the lent memory holds
 

@@ -19,8 +19,8 @@ use Rattle.tray.specs.declared.Taken.TheVariants.{Refused, Out}
 -- ---- the questions
 
 -- their numbers: the lent memory is no tray; "31 number already held, 32 tray full"; "33 number not held"
-abbrev pub not_atray : ℕ
-not_atray = 5
+abbrev pub not_a_tray : ℕ
+not_a_tray = 5
 
 abbrev pub held_refusal : ℕ
 held_refusal = 31
@@ -55,11 +55,11 @@ hold_refusal tray number pair =
 
 -- and the size of the lent memory before them
 unfoldable pub put_refusal : List ℕ → ℕ → ℕ → ℕ → ℕ
-put_refusal tray number u y = ask (is_tray tray) not_atray (hold_refusal tray number (refusal u y))
+put_refusal tray number u y = ask (is_tray tray) not_a_tray (hold_refusal tray number (refusal u y))
 
 -- the questions to a take: "33 number not held"
 unfoldable pub take_refusal : List ℕ → ℕ → ℕ
-take_refusal tray number = ask (is_tray tray) not_atray (ask (ltb 0 (held_as tray number)) not_held_refusal 0)
+take_refusal tray number = ask (is_tray tray) not_a_tray (ask (ltb 0 (held_as tray number)) not_held_refusal 0)
 
 -- the same questions by places, as the code asks them: the place where the number is held, and the first free one
 unfoldable pub first_no : ℕ → ℕ → ℕ → ℕ
