@@ -52,7 +52,7 @@ pub fn write_output(rt: &(impl Print + Eprint), bytes: &[u8]) {
     }
 }
 
-// Writes a line to standard error.
-pub fn say(rt: &impl Eprint, line: &str) {
-    let _ = eprintln!(rt; "{line}");
+// Writes a line to standard error, which the program hands in.
+pub fn say(err: &impl Print, line: &[u8]) {
+    let _ = err.write_all(line);
 }

@@ -4,16 +4,19 @@
 
 use sheet::SheetAnswer;
 
-fn work(rt: &(impl Print + Eprint), input: &mut [u8]) {
+fn work(rt: &HostRuntime, input: &mut [u8]) {
     if input.len() > report::MOST_INPUT {
-        streams::say(rt, "not worked: the input is longer than 65,536 bytes");
+        streams::say(
+            &rt.stderr(),
+            b"not worked: the input is longer than 65,536 bytes\n",
+        );
         return;
     }
     match sheet::work_sheet(input) {
         SheetAnswer::Accepted(_) => streams::write_output(rt, input),
         SheetAnswer::Refused(_) => streams::say(
-            rt,
-            "not worked: the sheet is refused; vi_print prints the number",
+            &rt.stderr(),
+            b"not worked: the sheet is refused; vi_print prints the number\n",
         ),
     }
 }
