@@ -7,8 +7,7 @@ use Rattle.tray.proofs.hold.Goals as goal
 
 pub returns-then-refused-ne-ANSWERED : goal.returns-then-refused-ne-ANSWERED
 returns-then-refused-ne-ANSWERED c =
-    let both =
-    hold_refused _ _ _ c.first_no-refused.ensures c.place_of_number-at.ensures c.free_place-i.ensures _ c.if-refused-ne-ANSWERED.true in
+    let both = hold_refused _ _ _ c.first_no-refused.ensures c.place_of_number-at.ensures c.free_place-i.ensures _ c.if-refused-ne-ANSWERED.true in
     record { number = both.0; numbers = both.1 }
 
 pub store_place-requires : goal.store_place-requires
@@ -18,7 +17,6 @@ store_place-requires c =
 
 pub returns : goal.returns
 returns c =
-    let both =
-    hold_held _ _ _ c.first_no-refused.ensures c.place_of_number-at.ensures c.free_place-i.ensures _ c.if-refused-ne-ANSWERED.false
+    let both = hold_held _ _ _ c.first_no-refused.ensures c.place_of_number-at.ensures c.free_place-i.ensures _ c.if-refused-ne-ANSWERED.false
     c.store_place.ensures in
     record { number = both.0; numbers = both.1 }

@@ -11,13 +11,11 @@ returns-then-tray-ne-TRAY_SIZE c =
 
 pub returns-then-i-ge-PLACES : goal.returns-then-i-ge-PLACES
 returns-then-i-ge-PLACES c =
-    let both =
-    take_33 _ _ c.if-tray-ne-TRAY_SIZE.false c.place_of_number-i.ensures c.if-i-ge-PLACES.true in
+    let both = take_33 _ _ c.if-tray-ne-TRAY_SIZE.false c.place_of_number-i.ensures c.if-i-ge-PLACES.true in
     record { answer = both.0; numbers = both.1 }
 
 pub returns : goal.returns
 returns c =
-    let both =
-    take_out _ _ c.if-tray-ne-TRAY_SIZE.false c.place_of_number-i.ensures c.if-i-ge-PLACES.false
+    let both = take_out _ _ c.if-tray-ne-TRAY_SIZE.false c.place_of_number-i.ensures c.if-i-ge-PLACES.false
     (c.sample_of-sample.ensures ∙ ap sample_of c.place_at.ensures) c.free.ensures in
     record { answer = both.0; numbers = both.1 }
