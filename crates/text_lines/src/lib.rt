@@ -52,8 +52,8 @@ pub fn put_sheet_refused(to: &mut [u8], number: u8) -> usize
 
 // A method's word, a space and the index.
 fn put_answered(to: &mut [u8], at: usize, word: &[u8], bits: u32) -> usize
-    requires word_len_bound { length word.now ≤ method_width }
-    requires outcome_width_in_bounds { at + outcome_width ≤ length to.old }
+    requires short { length word.now ≤ method_width }
+    requires room { at + outcome_width ≤ length to.old }
     ensures { Put outcome_width to.old at (worded word.now (signed_decimal (signed_of bits))) to.new result }
 {
     let space = text_fields::put_word(to, at, word);
@@ -88,8 +88,8 @@ fn put_outcome(to: &mut [u8], at: usize, number: u8, method: u8, bits: u32) -> u
 
 // The outcome of the pair whose record begins at `from`.
 fn put_outcome_at(to: &mut [u8], at: usize, sheet: &[u8], from: usize) -> usize
-    requires outcome_width_in_bounds { at + outcome_width ≤ length to.old }
-    requires result_size_in_bounds { from + result_size ≤ length sheet.now }
+    requires room { at + outcome_width ≤ length to.old }
+    requires record_within { from + result_size ≤ length sheet.now }
     ensures { Put outcome_width to.old at (outcome_at sheet.now from) to.new result }
 {
     let bits = answer_record::number_at(sheet, from + INDEX_AT);
@@ -105,7 +105,7 @@ pub fn put_line(
     results: usize,
     i: usize,
 ) -> usize
-    requires line_width_in_bounds { at + line_width ≤ length to.old }
+    requires room { at + line_width ≤ length to.old }
     requires pair_within { PairWithin (length sheet.now) pairs results i }
     ensures { Put line_width to.old at (line_at sheet.now pairs results i) to.new result }
 {
