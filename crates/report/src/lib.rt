@@ -38,7 +38,7 @@ fn put_lines(
     pairs: usize,
     results: usize,
 ) -> usize
-    requires n_in_bounds { at + line_width * n ≤ length to.old }
+    requires room { at + line_width * n ≤ length to.old }
     requires blocks_within { BlocksWithin (length sheet.now) n pairs results }
     ensures { Put (line_width * n) to.old at (lines_at sheet.now pairs results n) to.new result }
 {
@@ -53,7 +53,7 @@ fn put_lines(
 
 // The text of a worked sheet of n pairs.
 fn put_pairs(to: &mut [u8], sheet: &[u8], n: u32) -> usize
-    requires text_width_in_bounds { text_width ≤ length to.old }
+    requires room { text_width ≤ length to.old }
     requires readable { Readable sheet.now n }
     ensures { Put text_width to.old 0 (first_line n ++ lines_at sheet.now (pairs_of sheet.now) (results_of sheet.now) n) to.new result }
 {
