@@ -1,72 +1,74 @@
 #!/usr/bin/env bash
 # No must-fail edit is refused only because a proof file does not fit it. One that adds a call or drops a step would be refused by any proof file,
-# whatever the promise says: so this fails where a log that `rt ci` left below target/must-fail has an error of a kind that tests/misfits.txt lists, or
-# no error of its own. It cannot tell more: that the error left is the fact which the edit was made to break is for a reader of the log to say
-# (docs/TRACE.md), and that no other proof would carry the edited program is shown only where a statement refutes it (docs/PROMISES.md).
+# whatever the promise says: so this fails where rt shows an edit's refusal with an error of a kind that tests/misfits.txt lists, or with no error of its
+# own, or says itself that only a name is missing or only a limit was met. It cannot tell more: that the error is the fact which the edit was made to break is
+# for a reader of that line to say (docs/TRACE.md), and that no other proof would carry the edited program is shown only where a statement refutes it
+# (docs/PROMISES.md).
 set -u
 cd "$(dirname "$0")/.." || exit 1
 work=$(mktemp -d)
 trap 'rm -rf "$work"' EXIT
 bad=0
 
-mapfile -t misfits < <(grep -vE '^(#|$|first: )' tests/misfits.txt)
-mapfile -t first_misfits < <(sed -n 's/^first: //p' tests/misfits.txt)
+mapfile -t misfits < <(grep -vE '^(#|$)' tests/misfits.txt)
 
-# first_error LOG: the first error that does not only follow from another. A function without a proof file has none; then what was not
-# proved of it.
-first_error() {
-    grep ': error: ' "$1" | grep -v -m 1 'was not admitted' || grep -m 1 'it is not proved that' "$1"
-}
-
-# first_block LOG: the same error with the indented lines that belong to it.
-first_block() {
-    awk 'found && /^[^ ]/ { exit } found || /: error: / && !/was not admitted/ { found = 1; print }' "$1"
-}
-
-# judge LOG: says nothing where facts are broken and nothing else, otherwise what is wrong with it.
+# judge CRATE/EDIT LOG: says nothing where rt refused the edit by a broken fact, otherwise what is wrong.
 judge() {
-    local kind
-    [ -f "$1" ] || { echo "no log; rt ci has not tried it"; return; }
-    [ -n "$(first_error "$1")" ] || { echo "no error in its log"; return; }
+    local line kind
+    line=$(grep -F -m 1 "must-fail $1.edit: " "$2") || { echo "rt has not tried it"; return; }
+    line=${line#*"must-fail $1.edit: "}
+    case $line in
+    'refused, as it must be: '*) line=${line#*: } ;;
+    'refused, as it must be') echo "no error of its own"; return ;;
+    *) echo "$line"; return ;;
+    esac
     for kind in "${misfits[@]}"; do
-        grep -qF -- "$kind" "$1" && { echo "misfit: $kind"; return; }
-    done
-    for kind in "${first_misfits[@]}"; do
-        first_block "$1" | grep -qF -- "$kind" && { echo "misfit: $kind"; return; }
+        grep -qF -- "$kind" <<<"$line" && { echo "misfit: $kind"; return; }
     done
 }
 
-# made NAME WANTED LINE ..: judge says WANTED of a log of these lines.
+# made NAME WANTED SAID: judge says WANTED of a made log in which rt says SAID of an edit.
 made() {
-    local name=$1 wanted=$2 said
-    shift 2
-    printf '%s\n' "$@" >"$work/$name"
-    said=$(judge "$work/$name")
-    [ "$said" = "$wanted" ] || { echo "must-fail logs: of a made log, $name: '$said'"; bad=1; }
+    local said
+    printf '%s\n' "rt: must-fail small/other.edit: refused, as it must be: P.antt:1:1: error: \`a\`: \`omega\`: no" \
+        ${3:+"rt: must-fail small/$1.edit: $3"} 'rt: ok; handles allowed: none' >"$work/made"
+    said=$(judge "small/$1" "$work/made")
+    [ "$said" = "$2" ] || { echo "must-fail logs: of a made log, $1: '$said'"; bad=1; }
 }
-follows='P.antt:8:1: error: `b`: `a` was not admitted, so this cannot be checked'
-order='P.antt:9:1: error: `c`: `omega`: the goal does not follow'
-made broken-order '' "$follows" "$order" '  at `i` = 1'
-made broken-promise '' "$follows" 'note: lib.rt:1:1: it is not proved that what the function ensures holds'
-made missing-goal 'misfit: that can be named from here' 'P.antt:7:1: error: `a`: `Tie` has no `Need-a` that can be named from here' "$order"
-made missing-field 'misfit: has no field' 'P.antt:7:1: error: `a`: record `At`' '  has no field `args`'
-made missing-function 'misfit: for this file to be the proof of' 'P.antt: error: `c` has no function `f` for this file to be the proof of' "$order"
-made goal-too-many 'misfit: expected type `tie.Need-' "$order" 'P.antt:12:1: error: `s`: expected type `tie.Need-d`, but this has type `tie.Need-c`'
-nothing='P.antt:7:1: error: `a`: `rw`: no occurrence of the path'\''s left endpoint in the goal'
-made nothing-rewritten "misfit: no occurrence of the path's left endpoint" "$follows" "$nothing" "$order"
-made nothing-rewritten-later '' "$order" "$nothing"
-made not-joined 'misfit: the equations do not join' 'P.antt:7:1: error: `a`: list the missing equation' '  `cc`: the equations do not join `a` to `b`'
-made not-joined-later '' "$order" '  at `i` = 1' 'P.antt:9:1: error: `a`: list it' '  `cc`: the equations do not join `a` to `b`'
-made only-follows 'no error in its log' "$follows" 'logic=not-proved'
+refused='refused, as it must be'
+made broken-order '' "$refused: ./proofs/f/Answers.antt:9:1: error: \`c\`: \`omega\`: the goal does not follow"
+made broken-promise '' "$refused: note: src/lib.rt:1:1: it is not proved that what the function ensures holds"
+made broken-statement '' "$refused: ./proofs/Law.antt:5:9: error: \`law\`: these two are not equal"
+made missing-goal 'misfit: that can be named from here' "$refused: P.antt:7:1: error: \`a\`: module \`Goals\` has no \`a\` that can be named from here"
+made missing-name 'misfit: is not in scope' "$refused: P.antt:7:1: error: \`a\`: \`b\` is not in scope"
+made missing-field 'misfit: has no field' "$refused: P.antt:7:1: error: \`a\`: record \`At\` has no field \`args\`"
+made no-record 'misfit: projects from a record, but this has type' "$refused: P.antt:7:1: error: \`a\`: \`.ensures\` projects from a record, but this has type \`x ≡ y\`"
+made missing-function 'misfit: for this file to be the proof of' "$refused: P.antt: error: \`c\` has no function \`f\` for this file to be the proof of"
+made another-goal 'misfit: expected type `goal.' "$refused: P.antt:12:1: error: \`s\`: expected type \`goal.d\`, but this has type \`goal.c\`"
+made nothing-rewritten "misfit: no occurrence of the path's left endpoint" "$refused: P.antt:7:1: error: \`a\`: \`rw\`: no occurrence of the path's left endpoint"
+made not-joined 'misfit: list the missing equation with its arguments' "$refused: P.antt:7:1: error: \`a\`: list the missing equation with its arguments, or rewrite"
+names='only because a proof file names what the edit took away'
+made only-names "$refused ($names): P.antt:7:1: error" "$refused ($names): P.antt:7:1: error"
+made only-a-limit "$refused (only by a limit of the prover): P.antt:7:1" "$refused (only by a limit of the prover): P.antt:7:1"
+made no-error 'no error of its own' "$refused"
+made still-proved 'NOT REFUSED: the crate is still proved' 'NOT REFUSED: the crate is still proved'
+made bad 'BAD EDIT: it cannot be applied' 'BAD EDIT: it cannot be applied'
+made not-tried 'rt has not tried it' ''
 
-[ -d target/must-fail ] || { echo "must-fail logs: there is no target/must-fail; run rt ci first"; exit 1; }
+# What rt ci said in the gate, unless a file has changed since. Otherwise rt must-fail says it, which tries what is new.
+log=target/rt-ci.log
+if [ ! -f "$log" ] || [ -n "$(find crates.txt crates -path 'crates/*/out' -prune -o -type f -newer "$log" -print -quit)" ]; then
+    log=$work/log
+    rt must-fail >"$log" 2>&1
+    grep -q 'must-fail ' "$log" || tail -n 3 "$log"
+fi
 count=0
 for edit in crates/*/must-fail/*.edit; do
     one=${edit#crates/}
     one=${one/\/must-fail\//\/}
-    said=$(judge "target/must-fail/${one%.edit}/.log")
+    said=$(judge "${one%.edit}" "$log")
     [ -z "$said" ] || { echo "must-fail logs: ${one%.edit}: $said"; bad=1; }
     count=$((count + 1))
 done
-[ "$bad" -eq 0 ] && echo "must-fail logs: $count edits, each with an error of its own and none with a misfit"
+[ "$bad" -eq 0 ] && echo "must-fail logs: $count edits, each refused with an error of its own and none with a misfit"
 exit "$bad"
