@@ -5,7 +5,7 @@
 #   bench/constant.sh count   instructions a constant by valgrind's callgrind, which a noisy machine does not change
 #
 # Two of ours are measured: the C calls, which copy the tables of logarithms for each constant, and the calculation with tables that are copied
-# once. No C function does the second, so a crate that does is written beside a copy of the crates, outside the repository.
+# once. No C function does the second, so a crate that does is written beside a copy of those below it, outside the repository.
 set -eu
 root=$(cd "$(dirname "$0")/.." && pwd)
 case ${1:-time} in
@@ -17,17 +17,17 @@ work=$(mktemp -d)
 trap 'rm -rf "$work"' EXIT
 . "$root/tests/archive.bash"
 
-cp -r "$root/crates" "$work/crates"
-{ cat "$root/crates.txt"; echo 'constant_c: logarithm gravity_constant'; } >"$work/crates.txt"
 mkdir -p "$work/crates/constant_c/src" "$work/crates/constant_c/proofs/constants"
+(cd "$root" && find crates/laws crates/logarithm crates/gravity_constant -path 'crates/*/out' -prune -o -type f -exec cp --parents -t "$work" {} +)
+printf 'laws:\nlogarithm: laws\ngravity_constant: laws logarithm\nconstant_c staticlib: logarithm gravity_constant\n' >"$work/crates.txt"
 
 cat >"$work/crates/constant_c/src/lib.rt" <<'RATTLE'
-ghost use mathlib.Core.Path.{_≡_};
-ghost use Prim.Native.Nat.{_+_, _<_, _≤_};
-ghost use lib.ListN.{length};
-use gravity_constant::Constant;
-use gravity_constant::ConstantAnswer;
-use gravity_constant::Temperature;
+// Constants of many oils, for C.
+#![tactic(auto)]
+
+ghost use Rattle.std.specs.Prelude.{◌≡◌, ◌+◌, ◌<◌, ◌≤◌, length};
+
+use gravity_constant::{Constant, ConstantAnswer, Temperature};
 
 // The constant, or zeros where it is refused.
 fn constant_or_zeros(answer: ConstantAnswer) -> Constant {
@@ -42,16 +42,16 @@ fn constant_or_zeros(answer: ConstantAnswer) -> Constant {
 }
 
 fn put(out: &mut [i32], at: usize, x: i32)
-    requires { ⌜ at < length (now out) ⌝ }
-    ensures { λ _. ⌜ length (now (out .exit)) ≡ length (now (out .entry)) ⌝ }
+    requires { at < length out.old }
+    ensures { length out.new ≡ length out.old }
 {
     out[at] = x;
 }
 
 // The three numbers of a constant, from place `at` on.
 fn put_constant(out: &mut [i32], at: usize, c: Constant)
-    requires { ⌜ at + 3 ≤ length (now out) ⌝ }
-    ensures { λ _. ⌜ length (now (out .exit)) ≡ length (now (out .entry)) ⌝ }
+    requires { at + 3 ≤ length out.old }
+    ensures { length out.new ≡ length out.old }
 {
     put(out, at, c.thousandths);
     put(out, at + 1, c.lower);
@@ -71,135 +71,44 @@ fn constants(t: Temperature, viscosities: &[u32], densities: &[u32], out: &mut [
         if out.len() - at < 3 {
             return;
         }
-        let answer = gravity_constant::answer_with_tables(&first, &second, t, viscosities[i], densities[i]);
+        let answer = gravity_constant::answer_with_tables(
+            &first,
+            &second,
+            t,
+            viscosities[i],
+            densities[i],
+        );
         put_constant(out, at, constant_or_zeros(answer));
         at += 3;
         i += 1;
     }
 }
 
-#[no_mangle]
+#[unsafe(no_mangle)]
 pub extern "C" fn constants_40(viscosities: &[u32], densities: &[u32], out: &mut [i32]) {
     constants(Temperature::At40, viscosities, densities, out);
 }
 
-#[no_mangle]
+#[unsafe(no_mangle)]
 pub extern "C" fn constants_100(viscosities: &[u32], densities: &[u32], out: &mut [i32]) {
     constants(Temperature::At100, viscosities, densities, out);
 }
 RATTLE
 
-cat >"$work/crates/constant_c/proofs/constants/Proof.antt" <<'ANTT'
--- `constant_c::constants` is safe: both indices stay within their slices, and the copied tables are those that it lends.
-use mathlib.Core.Path.{_≡_}
-use Prim.Native.Nat.{_≤_, _-_}
-use borrow.Author.Needs.{needs}
-use lib.ListN.{length}
-use Rattle·constant_c·proofs.proofs.constants.Statement.{statement}
-use Rattle·constant_c·proofs.proofs.constants.Tie as tie
+cat >"$work/crates/constant_c/proofs/constants/Invariants.antt" <<'ANTT'
+-- Both indices stay within their slices, and the results keep their number.
+use Rattle.std.specs.Prelude.{◌≡◌, ◌≤◌, ◌-◌, length}
+use Rattle.constant_c.proofs.constants.Given as goal
 
-abbrev Inv-loop : tie.InvT-loop
-Inv-loop t viscosities densities out₀ first second i₀ at₀ out i at = (i ≤ length viscosities) × (at ≤ length out) × (length out ≡ length out₀)
+abbrev pub invariant-loop-i : goal.invariant-loop-i
+invariant-loop-i l = (l.i ≤ length l.viscosities) × (l.at ≤ length l.out) × (length l.out ≡ length l.fn.out)
 
-abbrev μ-loop : tie.MeasureT-loop
-μ-loop t viscosities densities out₀ first second i₀ at₀ out i at = length viscosities - i
-
-first-table-requires : tie.Need-first-table-requires Inv-loop μ-loop
-first-table-requires c κs = search needs
-
-second-table-requires : tie.Need-second-table-requires Inv-loop μ-loop
-second-table-requires c κs = search needs
-
-loop-holds : tie.Need-loop-holds Inv-loop μ-loop
-loop-holds c = search needs
-
-same-length : tie.Need-same-length Inv-loop μ-loop
-same-length c = search needs
-
-returns : tie.Need-returns Inv-loop μ-loop
-returns c = search needs
-
-sub-if2 : tie.Need-sub-if2 Inv-loop μ-loop
-sub-if2 c = search needs
-
-same-length-2 : tie.Need-same-length-2 Inv-loop μ-loop
-same-length-2 c = search needs
-
-returns-2 : tie.Need-returns-2 Inv-loop μ-loop
-returns-2 c = search needs
-
-mul-answer-with-tables : tie.Need-mul-answer-with-tables Inv-loop μ-loop
-mul-answer-with-tables c = search needs
-
-shared-slice-read-answer-with-tables :
-    tie.Need-shared-slice-read-answer-with-tables Inv-loop μ-loop
-shared-slice-read-answer-with-tables c = search needs
-
-mul-answer-with-tables-2 : tie.Need-mul-answer-with-tables-2 Inv-loop μ-loop
-mul-answer-with-tables-2 c = search needs
-
-shared-slice-read-answer-with-tables-2 :
-    tie.Need-shared-slice-read-answer-with-tables-2 Inv-loop μ-loop
-shared-slice-read-answer-with-tables-2 c = search needs
-
-answer-with-tables-requires : tie.Need-answer-with-tables-requires Inv-loop μ-loop
-answer-with-tables-requires c κs = search needs
-
-constant-or-zeros-requires : tie.Need-constant-or-zeros-requires Inv-loop μ-loop
-constant-or-zeros-requires c κs = search needs
-
-put-constant-requires : tie.Need-put-constant-requires Inv-loop μ-loop
-put-constant-requires c κs = search needs
-
-add-at : tie.Need-add-at Inv-loop μ-loop
-add-at c = search needs
-
-add-i : tie.Need-add-i Inv-loop μ-loop
-add-i c = search needs
-
-loop-less : tie.Need-loop-less Inv-loop μ-loop
-loop-less c = search needs
-
-loop-again : tie.Need-loop-again Inv-loop μ-loop
-loop-again c = search needs
-
-same-length-3 : tie.Need-same-length-3 Inv-loop μ-loop
-same-length-3 c = search needs
-
-returns-3 : tie.Need-returns-3 Inv-loop μ-loop
-returns-3 c = search needs
-
-pub constants-spec : {M : Type 1} → statement M
-constants-spec =
-    tie.close
-    (tie.spec
-    Inv-loop
-    μ-loop
-    first-table-requires
-    second-table-requires
-    loop-holds
-    same-length
-    returns
-    sub-if2
-    same-length-2
-    returns-2
-    mul-answer-with-tables
-    shared-slice-read-answer-with-tables
-    mul-answer-with-tables-2
-    shared-slice-read-answer-with-tables-2
-    answer-with-tables-requires
-    constant-or-zeros-requires
-    put-constant-requires
-    add-at
-    add-i
-    loop-less
-    loop-again
-    same-length-3
-    returns-3)
+abbrev pub decreases-loop-i : goal.decreases-loop-i
+decreases-loop-i l = length l.viscosities - l.i
 ANTT
 
-(cd "$work" && rt staticlib constant_c) >"$work/log" 2>&1 || { cat "$work/log" >&2; exit 1; }
-gcc -std=gnu11 -Wall -Wextra -Werror -O2 -I"$root/include" "$root/bench/constant.c" "$archive" "$work/target/staticlib/libconstant_c.a" -lm -o "$work/constant"
+(cd "$work/crates/constant_c" && rt lib) >"$work/log" 2>&1 || { cat "$work/log" >&2; exit 1; }
+gcc -std=gnu11 -Wall -Wextra -Werror -O2 -I"$root/include" "$root/bench/constant.c" "$archive" "$work/crates/constant_c/out/libconstant_c.a" -lm -o "$work/constant"
 
 instructions() { # WHAT OILS TIMES
     valgrind --tool=callgrind --callgrind-out-file=/dev/null "$work/constant" run "$1" "$2" "$3" 2>&1 | sed -n 's/.*Collected : //p'

@@ -234,7 +234,7 @@ def test_closed_output():
     os.close(write_end)
     program.communicate(sheet([(4294967295, 4294967295)] * 2000), timeout=WAIT)
     check(True, "output to a closed pipe ends")
-    program = subprocess.Popen([PROGRAM], stdin=subprocess.PIPE, stdout=subprocess.PIPE)
+    program = subprocess.Popen([PROGRAM], stdin=subprocess.PIPE, stdout=subprocess.PIPE, stderr=subprocess.DEVNULL)
     program.stdin.write(sheet([(4294967295, 4294967295)] * 2000))
     program.stdin.close()
     first = program.stdout.read(8)
