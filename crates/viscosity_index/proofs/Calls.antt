@@ -10,10 +10,10 @@ use Rattle.answer_record.specs.Record.{result_size, record_of}
 use Rattle.sheet.specs.declared.SheetAnswer.{SheetAnswer}
 use Rattle.sheet.specs.Sheet.{sheet_refusal, sheet_answer_of, sheet_number_of}
 use Rattle.sheet.proofs.Worked.{number_of_answer}
-use Rattle.viscosity_index.specs.PairCall.{not_arecord, pair_number, record_after, PairCall, NoRecord}
+use Rattle.viscosity_index.specs.PairCall.{not_a_record, pair_number, record_after, PairCall, NoRecord}
 
 -- a record of another length: its number, and the record as it was
-pub untouched : (u y : ℕ) (lent : List ℕ) → (length lent ≡ result_size → ⊥) → PairCall u y lent not_arecord lent
+pub untouched : (u y : ℕ) (lent : List ℕ) → (length lent ≡ result_size → ⊥) → PairCall u y lent not_a_record lent
 untouched u y lent h = record { just_16 = λ e. absurd (h e); not_16 = λ _. (refl, refl) }
 
 pub no_record : NoRecord

@@ -10,12 +10,12 @@ use Rattle.answer_record.specs.Record.{result_size, record_of, RecordOfPair}
 abbrev pub just16 : List ℕ → Bool
 just16 lent = eqb (length lent) result_size
 
-abbrev pub not_arecord : ℕ
-not_arecord = 5
+abbrev pub not_a_record : ℕ
+not_a_record = 5
 
 -- what the call answers
 unfoldable pub pair_number : List ℕ → ℕ → ℕ → ℕ
-pair_number lent u y = ask (just16 lent) not_arecord (number_of (answer_of u y))
+pair_number lent u y = ask (just16 lent) not_a_record (number_of (answer_of u y))
 
 -- the record afterwards
 unfoldable pub record_after : List ℕ → ℕ → ℕ → List ℕ
@@ -29,7 +29,7 @@ pub record Filled (u y number : ℕ) (after : List ℕ) : Type 0 where
 -- what the call answers and leaves, whatever is lent
 pub record PairCall (u y : ℕ) (lent : List ℕ) (number : ℕ) (after : List ℕ) : Type 0 where
   pub just_16 : length lent ≡ result_size → Filled u y number after
-  pub not_16 : (length lent ≡ result_size → ⊥) → (number ≡ not_arecord) × (after ≡ lent)
+  pub not_16 : (length lent ≡ result_size → ⊥) → (number ≡ not_a_record) × (after ≡ lent)
 
 -- "(no: 5, record untouched)": a record of no bytes, whatever the pair
 pub record NoRecord : Type 0 where
