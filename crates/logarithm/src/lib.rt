@@ -132,7 +132,7 @@ fn fraction(first: &[u32; LOG_TABLE_SIZE], second: &[u32; LOG_TABLE_SIZE], m: u6
     a.log + (b.log + (b.mantissa - UNIT) * SLOPE / SLOPE_DIVISOR)
 }
 
-// The tables, to be held as locals and lent to log2_scaled: what these two promise is what its `LentLogarithms` asks for, and `search needs` passes
+// The tables, to be held as locals and lent to log2_scaled: what these two promise is what its `LentLogarithms` asks for, and `search rules` passes
 // it on. A constant array that is read at an index known only when the program runs is copied whole on each call that reads it, so a
 // caller copies once for many logarithms.
 pub fn first_table() -> [u32; LOG_TABLE_SIZE]
