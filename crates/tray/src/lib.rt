@@ -36,6 +36,7 @@ pub enum Taken {
 
 // The first question that is answered no, of a put whose pair has the number `pair`, whose number is held in place `at` and for which place `free` is free;
 // PLACES says that there is no such place.
+#[tactic(auto, unfolding(crate::specs::Tray::first_no))]
 fn first_no(pair: u8, at: usize, free: usize) -> u8
     ensures { result ≡ first_no pair at free }
 {

@@ -108,6 +108,7 @@ fn store_pair(pair: &mut [u32], u: u32, y: u32)
 }
 
 // Takes a sample out: its pair, and its answer as one record.
+#[tactic(auto, unfolding(crate::specs::TrayCalls::take_number, crate::specs::TrayCalls::tray_taken, crate::specs::TrayCalls::pair_taken, crate::specs::TrayCalls::record_taken))]
 pub fn take_sample(tray: &mut [u32], number: u32, pair: &mut [u32], record: &mut [u8]) -> u32
     ensures number { result ≡ take_number tray.old pair.old «record».old number }
     ensures numbers { tray.new ≡ tray_taken tray.old pair.old «record».old number }
