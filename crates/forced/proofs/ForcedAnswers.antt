@@ -1,4 +1,4 @@
--- The answers to these pairs are forced. By A and where a pair is refused, the definitions compute. By B the two whole numbers beside Q-as-N bound what any p
+-- The answers to these pairs are forced. By A and where a pair is refused, the definitions compute. By B the two whole numbers beside Q·N bound what any p
 -- and P show of the index: of (22830, 5050) that it is from 156.42 to 156.43; of (144936, 16776) neither that it is at least nor that it is at most 124.5.
 use Prim.Native.Nat.{ℕ, ◌*◌, ◌^◌, ◌≤◌, ◌<◌}
 use mathlib.Core.Path.{◌≡◌, refl, sym, ◌∙◌, ap, subst}
@@ -77,7 +77,7 @@ by_mark P u y q l f (Refused n) r = not_some n (r.number ∙ q) r.case
 by_mark P u y q l f (A i) r = let h : h_at y ≤ in_units u = r.case.0 in absurd (omega arith)
 by_mark P u y q l f (B b) r = f b r.case.marked
 
--- ---- (22830, 5050): Q-as-N lies between 2,469,440 and 2,469,441, which stand for an index from 156.42 to 156.43
+-- ---- (22830, 5050): Q·N lies between 2,469,440 and 2,469,441, which stand for an index from 156.42 to 156.43
 
 p156 : ℕ
 p156 = 2469440
@@ -144,7 +144,7 @@ marked_156 mark.Settled k p P h =
     subst (λ (j : ℕ). Forced156 (method_of_mark mark.Settled) (pos j) p P) (sym e) (forced_156 p P (subst (λ (j : ℕ). SettledAt 22830 5050 j p P) e h))
 marked_156 mark.Near k p P h = absurd (never_near k p P h)
 
--- ---- (144936, 16776): Q-as-N and that of 124.5 lie between 1,176,125 and 1,176,126; c(12450) is 11,751,750
+-- ---- (144936, 16776): Q·N and that of 124.5 lie between 1,176,125 and 1,176,126; c(12450) is 11,751,750
 
 p125 : ℕ
 p125 = 1176125

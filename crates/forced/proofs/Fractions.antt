@@ -1,4 +1,4 @@
--- An oil below H whose Q-as-N lies between p and p + 1: a numerator that is shown to be at most Q-as-N is at most p, and one that is shown to be at least Q-as-N is at
+-- An oil below H whose Q·N lies between p and p + 1: a numerator that is shown to be at most Q·N is at most p, and one that is shown to be at least Q·N is at
 -- least p + 1. So the numbers that p and p + 1 stand for bound what any p and P show of the index.
 use Prim.Native.Nat.{ℕ, suc, ◌+◌, ◌*◌, ◌-◌, ◌^◌, ◌≤◌, ◌<◌}
 use mathlib.Core.Path.{◌≡◌, sym, ◌∙◌, ap}
@@ -27,7 +27,7 @@ thousandfold i =
     ∙ ap (λ (k : ℕ). 10 ^ i * k) (ap (λ (k : ℕ). 1000 ^ Q * k) (pow_mul 10 7 Q) ∙ sym (mul_pow 1000 10000000 Q))
 
 -- The numbers of an oil, compared by logarithms. For the viscosities p is tried with an oil that is thicker by a unit, and p + 1 with one that is thinner by
--- a unit: so Q-as-N is neither of the two. `most` and `least` bound 10^(7 + 3) times 10^N at p and at p + 1.
+-- a unit: so Q·N is neither of the two. `most` and `least` bound 10^(7 + 3) times 10^N at p and at p + 1.
 pub record Numbers (u y h p most least : ℕ) : Type 0 where
   pub h_is : h_at y ≡ h
   pub y_log : Enclosed y (log2_of y)
@@ -56,7 +56,7 @@ module _ (u y h p most least : ℕ) (some : 0 < u) (base : 1000 < y) (o : Number
       (powers_le scale (suc p) Q 1000 h y (in_units u - 1) (log1000 + 1) (log2_of h + width) (log2_of y) (log2_of (in_units u - 1)) scale_positive
       thousand.above o.h_log.above o.y_log.below o.thinner_log.below (rw Q_is o.upper))
 
-  -- a numerator that is at most Q-as-N of the thicker of two oils is below one that is at least that of the thinner
+  -- a numerator that is at most Q·N of the thicker of two oils is below one that is at least that of the thinner
   apart : (v w i j : ℕ) → v < w → y ^ i * w ^ Q ≤ 1000 ^ i * h_at y ^ Q → 1000 ^ j * h_at y ^ Q ≤ y ^ j * v ^ Q → i < j
   apart v w i j l low high =
       exponents_apart 1000 y (v ^ Q) (w ^ Q) (h_at y ^ Q) i j (omega arith) base (pow-lt-pow_left l (λ z. omega (arith, Q_is))) low high

@@ -56,14 +56,14 @@ pub record ForcedConstants : Type 0 where
   -- one more or one less in its last place moves both by 0.07 at least, and one of them past a half
   pub below_half_40 : (a : ConstantAnswer) → RightConstant At40 5501 8750 a → HasK a (pos 911)
   pub above_half_40 : (a : ConstantAnswer) → RightConstant At40 5501 8650 a → HasK a (pos 904)
-  -- at 100 °C: V' 2.5 and G 0.87, 835.278; the logarithm is 0: V' 1.8 and G 0.9, 880.000
+  -- at 100 °C: V′ 2.5 and G 0.87, 835.278; the logarithm is 0: V′ 1.8 and G 0.9, 880.000
   pub light_100 : (a : ConstantAnswer) → RightConstant At100 2500 8700 a → HasK a (pos 835)
   pub zero_100 : (a : ConstantAnswer) → RightConstant At100 1800 9000 a → HasK a (pos 880)
   -- the logarithm is −3, (G − 0.108 + 0.3765) / (0.90 + 0.291): G 0.854, 942.485; G 0.86, 947.523
   pub below_half_100 : (a : ConstantAnswer) → RightConstant At100 801 8540 a → HasK a (pos 942)
   pub above_half_100 : (a : ConstantAnswer) → RightConstant At100 801 8600 a → HasK a (pos 948)
 
--- the sign of the fractions is forced where the logarithm is 0 (V 6.5), and where it is −3 (V' 0.801), which is −50,331,648 over Q
+-- the sign of the fractions is forced where the logarithm is 0 (V 6.5), and where it is −3 (V′ 0.801), which is −50,331,648 over Q
 pub record ForcedFractions : Type 0 where
   pub at_zero : (c : Constant) → RightFound At40 6500 8600 c → (c.lower ≤ℤ pos 0) × (pos 0 ≤ℤ c.upper)
   pub below_zero : (c : Constant) → RightFound At100 801 8540 c → (c.lower ≤ℤ negsuc 50331647) × (c.upper ≤ℤ negsuc 50331583)

@@ -1,6 +1,6 @@
--- Formulas 1 and 2 of source document 001, G the density in g/ml, V and V' the viscosities in mm²/s, log to the base 10:
+-- Formulas 1 and 2 of source document 001, G the density in g/ml, V and V′ the viscosities in mm²/s, log to the base 10:
 --   formula 1, at 40 °C    (G − 0.0664 − 0.1154·log(V − 5.5)) / (0.94 − 0.109·log(V − 5.5))
---   formula 2, at 100 °C   (G − 0.108 − 0.1255·log(V' − 0.8)) / (0.90 − 0.097·log(V' − 0.8))
+--   formula 2, at 100 °C   (G − 0.108 − 0.1255·log(V′ − 0.8)) / (0.90 − 0.097·log(V′ − 0.8))
 -- The logarithm is taken as f / Q. The viscosity is in thousandths, all else in 0.0001, and the dividend and the divisor are both taken times Q.
 use Rattle.std.specs.Prelude.{ℕ, ◌-◌, ℤ, pos, ◌-ℤ◌, ◌*ℤ◌}
 use Rattle.logarithm.specs.Fractions.{Q}
@@ -32,7 +32,7 @@ abbrev pub divisor_slope : Temperature → ℕ
 divisor_slope At40 = 1090
 divisor_slope At100 = 970
 
--- V − 5.5 or V' − 0.8, in thousandths; the limits keep v above what is taken off
+-- V − 5.5 or V′ − 0.8, in thousandths; the limits keep v above what is taken off
 abbrev pub argument : Temperature → ℕ → ℕ
 argument t v = v - viscosity_taken t
 

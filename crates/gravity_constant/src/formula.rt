@@ -1,7 +1,7 @@
-// Formulas 1 and 2 of source document 001, at a fraction, and the constant there. G is the density in g/ml, V and V' are the viscosities in mm²/s, the
+// Formulas 1 and 2 of source document 001, at a fraction, and the constant there. G is the density in g/ml, V and V′ are the viscosities in mm²/s, the
 // logarithm is to the base 10:
 //   formula 1, at 40 °C    (G − 0.0664 − 0.1154·log(V − 5.5)) / (0.94 − 0.109·log(V − 5.5))
-//   formula 2, at 100 °C   (G − 0.108 − 0.1255·log(V' − 0.8)) / (0.90 − 0.097·log(V' − 0.8))
+//   formula 2, at 100 °C   (G − 0.108 − 0.1255·log(V′ − 0.8)) / (0.90 − 0.097·log(V′ − 0.8))
 // The viscosity is in thousandths here, and all else in 0.0001.
 ghost use Rattle.std.specs.Prelude.{◌≡◌, ◌<◌, ◌≤◌, ◌+◌, ◌*◌, ◌^◌};
 ghost use Rattle.logarithm.specs.Fractions.{Q_number};
@@ -47,7 +47,7 @@ pub const N_OF_ZERO: u64 = SHIFT * Q;
 // How many thousandths 1 has.
 pub const THOUSANDTHS: u64 = 1_000;
 
-// What the logarithm is taken of, in thousandths: V − 5.5 or V' − 0.8.
+// What the logarithm is taken of, in thousandths: V − 5.5 or V′ − 0.8.
 pub fn argument_of(t: Temperature, v: u32) -> u64
     requires { (least_viscosity t ≤ v) × (v ≤ greatest_viscosity t) }
     ensures { (result ≡ argument t v) × (1 ≤ result) × (result ≤ 10 ^ digits t) }

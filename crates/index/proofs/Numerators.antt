@@ -36,7 +36,7 @@ few_algebra : (K p w D : ℕ) → 0 < w → p * w ≤ K * D → 6 * D ≤ 11 * w
 few_algebra K p w D z h l =
     le_of_mul-le-mul_right {k = w} (simp ring (omega (arith, h, simp ring at (mul-le-mul_left K l)))) z
 
--- K·D' ≤ (p + 2)·e, where K-as-D < (p + 1)·(e + s), D' ≤ D + g and what the two sides differ by is at most e
+-- K·D' ≤ (p + 2)·e, where K·D < (p + 1)·(e + s), D' ≤ D + g and what the two sides differ by is at most e
 upper_algebra : (K p e s D D' g : ℕ) → D' ≤ D + g → K * D < p * (e + s) + (e + s) → p * s + s + K * g ≤ e → K * D' ≤ (p + 2) * e
 upper_algebra K p e s D D' g d l w = simp ring (omega (arith, simp ring at (mul-le-mul_left K d), simp ring at l, w))
 

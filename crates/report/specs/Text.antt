@@ -3,7 +3,7 @@
 -- only the one line". Which bytes those lines are stands in `Lines` of the crate `text_lines`.
 use Rattle.std.specs.Prelude.{ℕ, zero, suc, cond, List, [], ◌++◌, leb, length, drop}
 use Rattle.sheet.specs.declared.SheetAnswer.{SheetAnswer}
-use Rattle.sheet.specs.declared.SheetAnswer.TheVariants as sheet-answer
+use Rattle.sheet.specs.declared.SheetAnswer.TheVariants as sheet_answer
 use Rattle.sheet.specs.Sheet.{pairs_of, u_at, y_at, answer_at, sheet_answer_of, sheet_after}
 use Rattle.text_lines.specs.Lines.{outcome, printed_line, first_line, refused_line}
 
@@ -15,8 +15,8 @@ printed_lines sheet (suc i) =
 
 -- the text of a sheet by the answer to it, and the text of a sheet
 abbrev pub text_by : List ℕ → SheetAnswer → List ℕ
-text_by sheet (sheet-answer.Accepted n) = first_line n ++ printed_lines sheet n
-text_by sheet (sheet-answer.Refused number) = refused_line number
+text_by sheet (sheet_answer.Accepted n) = first_line n ++ printed_lines sheet n
+text_by sheet (sheet_answer.Refused number) = refused_line number
 
 unfoldable pub text_of : List ℕ → List ℕ
 text_of sheet = text_by sheet (sheet_answer_of sheet)

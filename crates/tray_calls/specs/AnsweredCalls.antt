@@ -39,7 +39,7 @@ pub record RightRow (tray : List ℕ) (row : List ℤ) : Type 0 where
       ≡ pos (length (held_in tray)) ∷ summary.lowest ∷ summary.highest ∷ summary.sum ∷ pos summary.a ∷ pos summary.settled ∷ pos summary.near ∷ []
 
 pub record AnsweredCalls (tray lent pair : List ℕ) (row : List ℤ)
-    (tray-size : length tray ≡ 512) (lent-size : length lent ≡ 16) (pair_size : length pair ≡ 2) (row-size : length row ≡ 7) : Type 0 where
+    (of_tray : length tray ≡ 512) (of_record : length lent ≡ 16) (of_pair : length pair ≡ 2) (of_row : length row ≡ 7) : Type 0 where
   -- "both after the pair's own questions"; "31 number already held, 32 tray full"
   pub pair_first : (number u y : ℕ) → 0 < refusal u y → put_number tray lent number u y ≡ refusal u y
   pub number_held : (number u y : ℕ) → refusal u y ≡ 0 → 0 < held_as tray number → put_number tray lent number u y ≡ 31
