@@ -1,11 +1,9 @@
 // Standard input and output, as the programs use them: where one fails, a line on standard error says why. No clause knows what the system's streams
-// hold, so what is public here promises nothing; `read_at_most` says which bytes it reads of a reader whose bytes are known.
+// hold, so what is read and what is written is no promise here.
 #![tactic(auto)]
 
-ghost use Rattle.std.specs.Prelude.{◌≡◌, IfOk, IfSome, take};
+ghost use Rattle.std.specs.Prelude.{◌≤◌, IfSome, length};
 
-use std::alloc::Global;
-use std::io;
 use std::io::{Error, Read};
 
 // A line on standard error: what failed, and the system's word for it.
@@ -25,24 +23,23 @@ pub fn can_read(rt: &(impl Input + Eprint)) -> bool {
     }
 }
 
-// The bytes that a reader has left, the first `most` where it has more.
-fn read_at_most<R: Read + Drop>(alloc: Global, from: R, most: u64) -> io::Result<Vec<u8>>
-    ensures { IfOk result (λ bytes. IfSome (R.remaining from) (λ all. bytes.items ≡ take most all)) }
+// Reads standard input into the buffer until it is full or the input ends, and says how many bytes that are. None where it cannot be read.
+pub fn read_input(rt: &(impl Input + Eprint), into: &mut [u8]) -> Option<usize>
+    ensures { IfSome result (λ count. count ≤ length into.old) }
 {
-    let mut bytes = Vec::new(alloc);
-    from.take(most).read_to_end(&mut bytes)?;
-    Ok(bytes)
-}
-
-// Reads standard input to its end, or its first `most` bytes where it has more. None where it cannot be read.
-pub fn read_input(rt: &(impl Input + Eprint + AllocGlobal), most: u64) -> Option<Vec<u8>> {
-    match read_at_most(rt.alloc(), rt.reader(), most) {
-        Ok(bytes) => Some(bytes),
-        Err(why) => {
-            say_why(rt, "standard input", why);
-            None
+    let mut reader = rt.reader();
+    let mut count: usize = 0;
+    while count < into.len() {
+        match reader.read(&mut into[count..]) {
+            Ok(0) => return Some(count),
+            Ok(more) => count += more,
+            Err(why) => {
+                say_why(rt, "standard input", why);
+                return None;
+            }
         }
     }
+    Some(count)
 }
 
 // Writes the bytes to standard output.

@@ -6,10 +6,11 @@ fn main(rt: HostRuntime) {
     if !streams::can_read(&rt) {
         return;
     }
-    let Some(mut input) = streams::read_input(&rt, report::INPUT_SIZE as u64) else {
+    let mut input = [0u8; report::INPUT_SIZE];
+    let Some(count) = streams::read_input(&rt, &mut input) else {
         return;
     };
     let mut text = [0u8; report::TEXT_SIZE];
-    let count = report::print_sheet(&mut input, &mut text);
-    streams::write_output(&rt, &text[..count]);
+    let written = report::print_sheet(&mut input[..count], &mut text);
+    streams::write_output(&rt, &text[..written]);
 }

@@ -25,8 +25,9 @@ fn main(rt: HostRuntime) {
     if !streams::can_read(&rt) {
         return;
     }
-    let Some(mut input) = streams::read_input(&rt, report::INPUT_SIZE as u64) else {
+    let mut input = [0u8; report::INPUT_SIZE];
+    let Some(count) = streams::read_input(&rt, &mut input) else {
         return;
     };
-    work(&rt, &mut input);
+    work(&rt, &mut input[..count]);
 }
