@@ -1,11 +1,11 @@
 -- Nine numbers as they are stored, and the summary that is read back from them.
 use Prim.Native.Nat.{ℕ}
 use mathlib.Core.Path.{◌≡◌, refl, sym, ap, ◌∙◌}
-use mathlib.Core.Bool.{true, false, cond}
+use mathlib.Core.Bool.{true, false}
 use mathlib.Core.List.{List, [], ◌∷◌}
 use native.Mathlib.Omega.{arith}
 use lib.IntN.{ℤ}
-use lib.ListN.{length, get_or, set, replicate}
+use lib.ListN.{length, get_or, set}
 use Rattle.laws.proofs.Contradiction.{both_ways}
 use Rattle.laws.proofs.Order.{by_test}
 use Rattle.index_summary.specs.declared.Summary.{Summary}
