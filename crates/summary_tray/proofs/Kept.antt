@@ -40,7 +40,7 @@ use Rattle.tray.proofs.OneMore.{by_equal, Small, small_index, put_walked, put_sm
 use Rattle.summary_tray.specs.SummaryTray.{places_size, tray_size, places_in, kept_in, state_of, walk_of, with_one, says_rest, without_one, keeping, put_answer, tray_after_put, take_answer, tray_after_take}
 use Rattle.summary_tray.specs.Calls.{after}
 use Rattle.summary_tray.specs.KeptSummary.{walked}
-use Rattle.summary_tray.proofs.Parts.{places_size_lem, taken_is}
+use Rattle.summary_tray.proofs.Parts.{length_places, taken_is}
 
 -- ---- a walk's summary in the kept numbers
 
@@ -73,7 +73,7 @@ kept_state l h = rw (eq-eqb (length l) tray_size h)
 
 walked_state : (l : List ℕ) → length l ≡ tray_size → walked l ≡ state_after Empty (held_in (places_in l))
 unfolding walk.state_of
-walked_state l h = rw (eq-eqb (length (places_in l)) places_size (places_size_lem l h))
+walked_state l h = rw (eq-eqb (length (places_in l)) places_size (length_places l h))
 
 pub keeps_equal : (l : List ℕ) → Keeps l → state_of l ≡ walked l
 keeps_equal l g = walk_told (places_in l) g.kept (kept_state l g.size) ∙ sym (walked_state l g.size)
@@ -179,19 +179,19 @@ module _ (l : List ℕ) (n u y : ℕ) (h : length l ≡ tray_size) (f : Small (p
   none = ap number_of (sym (put_as l h n u y)) ∙ z
 
   in_it : PutIn (places_in l) n u y
-  in_it = put_in (places_in l) n u y (places_size_lem l h) none
+  in_it = put_in (places_in l) n u y (length_places l h) none
 
   in_walked : state_after Empty (held_in p) ≡ with_answer (state_after Empty (held_in (places_in l))) (answer_of u y)
-  in_walked = put_walked (places_in l) (places_size_lem l h) f n u y in_it.passed in_it.new in_it.few
+  in_walked = put_walked (places_in l) (length_places l h) f n u y in_it.passed in_it.new in_it.few
 
   -- by what is kept with one more
   pub in_keeps : with_one (kept_in l) (answer_of u y) p ≡ walk_of p → Keeps (tray_after_put l n u y)
   unfolding tray_after_put
   in_keeps e =
-      let answer : put_answer l n u y ≡ answer_of u y = put_as l h n u y ∙ (put_alone (places_in l) n u y (places_size_lem l h) none).1 in
+      let answer : put_answer l n u y ≡ answer_of u y = put_as l h n u y ∙ (put_alone (places_in l) n u y (length_places l h) none).1 in
       rw z
-      (keeps_of p (call_step (places_in l) (Put n u y) (places_size_lem l h)).size
-      (put_small (places_in l) (places_size_lem l h) f n u y in_it.passed in_it.new in_it.few)
+      (keeps_of p (call_step (places_in l) (Put n u y) (length_places l h)).size
+      (put_small (places_in l) (length_places l h) f n u y in_it.passed in_it.new in_it.few)
       (ap (λ (a : Answer). with_one (kept_in l) a p) answer ∙ e))
 
 put_refused_keeps : (l : List ℕ) (n u y : ℕ) → Keeps l → (number_of (put_answer l n u y) ≡ 0 → ⊥) → Keeps (tray_after_put l n u y)
@@ -223,19 +223,19 @@ module _ (l : List ℕ) (n : ℕ) (h : length l ≡ tray_size) {s : Sample} (o :
   out = sym (take_as l h n) ∙ o
 
   pub out_held : 0 < places.held_as q n
-  out_held = take_held q n (places_size_lem l h) out
+  out_held = take_held q n (length_places l h) out
 
   pub out_walked : Small q → state_after Empty (held_in q) ≡ with_answer (state_after Empty (held_in (places.tray_after_take q n))) s.answer
   out_walked f =
-      take_walked q (places_size_lem l h) f n out_held
-      ∙ ap (λ (x : Sample). with_answer (state_after Empty (held_in (places.tray_after_take q n))) x.answer) (sym (taken_is q n (places_size_lem l h) out))
+      take_walked q (length_places l h) f n out_held
+      ∙ ap (λ (x : Sample). with_answer (state_after Empty (held_in (places.tray_after_take q n))) x.answer) (sym (taken_is q n (length_places l h) out))
 
   -- by what is kept of the rest
   pub out_keeps : Small q → without_one (kept_in l) s.answer (places.tray_after_take q n) ≡ walk_of (places.tray_after_take q n) → Keeps (tray_after_take l n)
   unfolding tray_after_take
   out_keeps f e =
       rw o
-      (keeps_of (places.tray_after_take q n) (call_step q (Take n) (places_size_lem l h)).size (take_small q (places_size_lem l h) f n out_held) e)
+      (keeps_of (places.tray_after_take q n) (call_step q (Take n) (length_places l h)).size (take_small q (length_places l h) f n out_held) e)
 
 take_keeps : (l : List ℕ) (n : ℕ) → Keeps l → (t : Taken) → take_answer l n ≡ t → Keeps (tray_after_take l n)
 unfolding tray_after_take

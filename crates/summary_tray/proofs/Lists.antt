@@ -7,7 +7,7 @@ use mathlib.Core.Logic.{inl, inr}
 use native.Mathlib.Omega.{arith}
 use borrow.Author.Tests.{eqb-false, eq-eqb, ne_eqb}
 use lib.Dec.{eqb}
-use lib.ListN.{length, get_or, take, replicate, length-replicate, get_or-replicate, get_or-eq_default, replicate-append-replicate}
+use lib.ListN.{length, get_or, replicate, length-replicate, get_or-replicate, get_or-eq_default, replicate-append-replicate}
 use lib.Seq.{take_at, drop_at}
 use lib.IntN.{ℤ}
 use lib.Signed.{◌≤ℤ◌}
@@ -46,7 +46,7 @@ use Rattle.tray.proofs.OneMore.{Small, put_walked}
 use Rattle.summary_tray.specs.SummaryTray.{places_size, tray_size, empty_tray, places_in, kept_in, state_of, walk_of, put_answer, tray_after_put, take_answer, tray_after_take}
 use Rattle.summary_tray.specs.Calls.{call_refusal, after, after_all, call_answer, answers_to}
 use Rattle.summary_tray.specs.KeptSummary.{left, SameExtremes, KeptSummary, NoAnswerMoved, AnyMemory, OtherMemory, Zeros}
-use Rattle.summary_tray.proofs.Parts.{places_size_lem, front_small, take_unchanged, put_5, take_5}
+use Rattle.summary_tray.proofs.Parts.{length_places, front_small, take_unchanged, put_5, take_5}
 use Rattle.summary_tray.proofs.Kept.{Keeps, kept_state, keeps_equal, equal_keeps, too_large_walked, not_between_walked, in_keeps, put_as, take_as, out_held, out_walked, out_keeps, call_keeps}
 
 -- ---- the empty tray
@@ -98,7 +98,7 @@ left_keeps cs = list_keeps empty_tray cs empty_keeps
 put_samples : (l : List ℕ) (n u y : ℕ) → length l ≡ tray_size → places_in (tray_after_put l n u y) ≡ places.tray_after_put (places_in l) n u y
 unfolding tray_after_put
 put_samples l n u y h =
-    let size = places_size_lem l h in
+    let size = length_places l h in
     by_test (eqb (number_of (put_answer l n u y)) 0)
     (λ e. rw e (take_at (places.tray_after_put (places_in l) n u y) _ places_size (call_step (places_in l) (Put n u y) size).size))
     (λ e.
@@ -107,9 +107,9 @@ put_samples l n u y h =
 
 take_samples : (l : List ℕ) (n : ℕ) → length l ≡ tray_size → (t : Taken) → take_answer l n ≡ t → places_in (tray_after_take l n) ≡ places.tray_after_take (places_in l) n
 unfolding tray_after_take
-take_samples l n h (taken.Refused k) e = rw e (sym (take_unchanged (places_in l) n (places_size_lem l h) k (sym (take_as l h n) ∙ e)))
+take_samples l n h (taken.Refused k) e = rw e (sym (take_unchanged (places_in l) n (length_places l h) k (sym (take_as l h n) ∙ e)))
 take_samples l n h (taken.Out s) e =
-    rw e (take_at (places.tray_after_take (places_in l) n) _ places_size (call_step (places_in l) (Take n) (places_size_lem l h)).size)
+    rw e (take_at (places.tray_after_take (places_in l) n) _ places_size (call_step (places_in l) (Take n) (length_places l h)).size)
 
 pub samples_after : (l : List ℕ) (c : Call) → length l ≡ tray_size → places_in (after l c) ≡ before.after (places_in l) c
 samples_after l (Put n u y) h = put_samples l n u y h
@@ -204,7 +204,7 @@ other_memory l h = record {
 -- the state is that of the samples held
 state_is : (l : List ℕ) → Keeps l → state_of l ≡ state_after Empty (held_in (places_in l))
 unfolding walk.state_of
-state_is l g = keeps_equal l g ∙ rw (eq-eqb (length (places_in l)) places_size (places_size_lem l g.size))
+state_is l g = keeps_equal l g ∙ rw (eq-eqb (length (places_in l)) places_size (length_places l g.size))
 
 after_none : {xs : List Sample} → xs ≡ [] → state_after Empty xs ≡ Empty
 unfolding state_after
@@ -264,14 +264,14 @@ module _ (l : List ℕ) (g : Keeps l) (n : ℕ) {s : Sample} (o : take_answer l 
   -- one sample less
   less : (test : Sample → Bool) → times test (held_in q) ≡ times test (held_in rest) + one (test s)
   less test =
-      let size = places_size_lem l g.size in
+      let size = length_places l g.size in
       let out = (every_call q size).taken_out n (out_held l n g.size o) in
       let same : out.sample ≡ s = sample_is (sym out.given ∙ sym (take_as l g.size n) ∙ o) in
       out.less test ∙ ap (λ (x : Sample). times test (held_in rest) + one (test x)) same
 
   number_is : s.number ≡ n
   number_is =
-      let size = places_size_lem l g.size in
+      let size = length_places l g.size in
       let out = (every_call q size).taken_out n (out_held l n g.size o) in
       ap (λ (x : Sample). x.number) (sym (sample_is (sym out.given ∙ sym (take_as l g.size n) ∙ o))) ∙ out.number_is
 
@@ -302,7 +302,7 @@ module _ (l : List ℕ) (g : Keeps l) (n : ℕ) {s : Sample} (o : take_answer l 
   back_in : (refusal s.u s.y ≡ 0) → s.answer ≡ answer_of s.u s.y → times (numbered n) (held_in q) ≤ 1
       → state_of (after (after l (Take n)) (Put n s.u s.y)) ≡ state_of l
   back_in passed own once =
-      let size = places_size_lem l g.size in
+      let size = length_places l g.size in
       let step = call_step q (Take n) size in
       let g' = call_keeps l (Take n) g in
       let held = out_held l n g.size o in

@@ -48,8 +48,8 @@ use Rattle.summary_tray.specs.SummaryTray.{places_size, tray_size, places_in, ke
 -- ---- the parts of the lent memory
 
 module _ (l : List ℕ) (h : length l ≡ tray_size) where
-  pub places_size_lem : length (places_in l) ≡ places_size
-  places_size_lem = length-take-le places_size l (omega arith)
+  pub length_places : length (places_in l) ≡ places_size
+  length_places = length-take-le places_size l (omega arith)
 
   block_size : length (drop places_size l) ≡ block_length
   block_size = length-drop places_size l ∙ omega arith
@@ -112,7 +112,7 @@ put_small q n u y {a} h a_is z =
 pub front_small : (l : List ℕ) → length l ≡ tray_size → ((j : ℕ) → get_or l j 0 < span32) → (j : ℕ) → get_or (places_in l) j 0 < span32
 front_small l h f j =
     by_order j places_size (λ b. rw (get_or-take places_size l j 0 b) (f j))
-    (λ b. rw (get_or-eq_default (places_in l) 0 {n = j} (omega (arith, places_size_lem l h))) (omega arith))
+    (λ b. rw (get_or-eq_default (places_in l) 0 {n = j} (omega (arith, length_places l h))) (omega arith))
 
 pub taken_is : (q : List ℕ) (n : ℕ) {s : Sample} → length q ≡ places_size → places.take_answer q n ≡ taken.Out s → s ≡ sample_at q (place_of_number q n)
 taken_is q n {s} h e =
@@ -125,7 +125,7 @@ taken_is q n {s} h e =
 pub take_small : (l : List ℕ) (n : ℕ) {s : Sample} → length l ≡ tray_size → ((j : ℕ) → get_or l j 0 < span32) → places.take_answer (places_in l) n ≡ taken.Out s
     → mag (index_of s.answer) < span32
 take_small l n {s} h f e =
-    let is = taken_is (places_in l) n (places_size_lem l h) e in
+    let is = taken_is (places_in l) n (length_places l h) e in
     rw is (index_small (places_in l) (front_small l h f) (place_of_number (places_in l) n))
 
 pub says_within : (t : Summary) (a : Answer) → says_rest t a ≡ true → Within most t
@@ -159,8 +159,8 @@ module _ (l : List ℕ) (n : ℕ) where
       unfolding places.tray_holding
       hold_size =
           by_test (eqb (places.hold_refusal (places_in l) n pair) 0)
-          (λ e. ap length p-is ∙ rw e (length_stored (places_in l) _ _ ∙ places_size_lem l h))
-          (λ e. ap length p-is ∙ rw e (places_size_lem l h))
+          (λ e. ap length p-is ∙ rw e (length_stored (places_in l) _ _ ∙ length_places l h))
+          (λ e. ap length p-is ∙ rw e (length_places l h))
 
       pub hold_refused : (k ≡ 0 → ⊥) → (k ≡ hold_refusal l n pair) × (p ++ drop places_size l ≡ tray_holding l n pair place)
       unfolding tray_holding places.tray_holding
@@ -177,7 +177,7 @@ module _ (l : List ℕ) (n : ℕ) where
           let room : free_place (places_in l) < 64 = has_room (places_in l) n pair none in
           let at = place_size * free_place (places_in l) in
           let is : p ≡ places.tray_storing (places_in l) place = rw none at p-is in
-          let there = place_there place (places_in l) (free_place (places_in l)) (omega (arith, places_size_lem l h)) in
+          let there = place_there place (places_in l) (free_place (places_in l)) (omega (arith, length_places l h)) in
           let index = ap (λ (q : Place). q.index) there in
           let before : get_or (p ++ drop places_size l) (at + 4) 0 ≡ get_or p (at + 4) 0 =
           get_or-append p (drop places_size l) 0 (at + 4) (omega (arith, hold_size)) in
@@ -205,14 +205,14 @@ module _ (l : List ℕ) (n : ℕ) where
       pub place_refused : (k ≡ 0 → ⊥) → (answer.Refused k ≡ put_answer l n u y) × (tray_holding l n pair place ≡ tray_after_put l n u y)
       unfolding put_answer tray_after_put
       place_refused z =
-          let by = questions.put_refused (places_in l) n u y (places_size_lem l h) a_is is_right pair_is place_is k_is refl z in
+          let by = questions.put_refused (places_in l) n u y (length_places l h) a_is is_right pair_is place_is k_is refl z in
           let is : put_answer l n u y ≡ answer.Refused k = rw (eq-eqb (length l) tray_size h) (sym by.0) in
           (sym is, hold_unless pair place k_is refl z ∙ sym (rw (is, ne_eqb k 0 z)))
 
       pub place_held : k ≡ 0 → (a ≡ put_answer l n u y) × (tray_holding l n pair place ≡ tray_after_put l n u y)
       unfolding put_answer tray_after_put
       place_held z =
-          let by = questions.put_held (places_in l) n u y (places_size_lem l h) a_is is_right pair_is place_is k_is refl z in
+          let by = questions.put_held (places_in l) n u y (length_places l h) a_is is_right pair_is place_is k_is refl z in
           let is : put_answer l n u y ≡ a = rw (eq-eqb (length l) tray_size h) (sym by.0) in
           let none : number_of a ≡ 0 = sym pair_is ∙ pair_none (places_in l) n pair (sym k_is ∙ z) in
           let passed : refusal u y ≡ 0 = sym is_right.number ∙ none in
@@ -226,13 +226,13 @@ module _ (l : List ℕ) (n : ℕ) where
       its_answer = rw (eq-eqb (length l) tray_size h) a_is
 
       pub put_size : length p ≡ places_size
-      put_size = ap length p-is ∙ (call_step (places_in l) (Put n u y) (places_size_lem l h)).size
+      put_size = ap length p-is ∙ (call_step (places_in l) (Put n u y) (length_places l h)).size
 
       pub put_refused : {k : ℕ} → k ≡ number_of a → (k ≡ 0 → ⊥) → (a ≡ put_answer l n u y) × (p ++ drop places_size l ≡ tray_after_put l n u y)
       unfolding tray_after_put
       put_refused {k} k_is z =
           let refused : 0 < number_of (places.put_answer (places_in l) n u y) = subst (λ (b : Answer). 0 < number_of b) a_is (rw k_is at (above_zero k z)) in
-          let same : p ≡ places_in l = p-is ∙ (every_call (places_in l) (places_size_lem l h)).unchanged (Put n u y) refused in (
+          let same : p ≡ places_in l = p-is ∙ (every_call (places_in l) (length_places l h)).unchanged (Put n u y) refused in (
             its_answer,
             rw (← its_answer, ← k_is, ne_eqb k 0 z) (ap (λ (q : List ℕ). q ++ drop places_size l) same ∙ take-append-drop places_size l),
           )
@@ -253,13 +253,13 @@ module _ (l : List ℕ) (n : ℕ) where
       its_taken = rw (eq-eqb (length l) tray_size h) t-is
 
       pub take_size : length p ≡ places_size
-      take_size = ap length p-is ∙ (call_step (places_in l) (Take n) (places_size_lem l h)).size
+      take_size = ap length p-is ∙ (call_step (places_in l) (Take n) (length_places l h)).size
 
       pub take_refused : {k : ℕ} → t ≡ taken.Refused k → (taken.Refused k ≡ take_answer l n) × (p ++ drop places_size l ≡ tray_after_take l n)
       unfolding tray_after_take
       take_refused {k} e =
           let is : take_answer l n ≡ taken.Refused k = sym its_taken ∙ e in
-          let same : p ≡ places_in l = p-is ∙ take_unchanged (places_in l) n (places_size_lem l h) k (sym t-is ∙ e) in
+          let same : p ≡ places_in l = p-is ∙ take_unchanged (places_in l) n (length_places l h) k (sym t-is ∙ e) in
           (sym is, rw is (ap (λ (q : List ℕ). q ++ drop places_size l) same ∙ take-append-drop places_size l))
 
       pub take_kept : {s : Sample} {after : List ℕ} → t ≡ taken.Out s
