@@ -1,5 +1,6 @@
 -- By what the places answer.
 use Prim.Native.Nat.{ℕ, ◌<◌}
+use native.Mathlib.Omega.{arith}
 use mathlib.Core.Path.{sym}
 use mathlib.Core.List.{◌++◌}
 use lib.ListN.{get_or, drop}
@@ -10,6 +11,13 @@ use Rattle.summary_tray.proofs.Parts.{length_places, changed_size, hold_size, ho
 use borrow.Author.Rules.{rules}
 use Rattle.summary_tray.proofs.hold.Goals as goal
 
+pub returns : goal.returns
+returns c =
+    let held = c.hold-refused.ensures in
+    let both = hold_kept _ _ c.requires _ _ held.number held.numbers _ c.answer_from-answer.ensures (omega arith)
+    c.keep_with.ensures in
+    record { number = both.0; numbers = both.1 }
+
 pub slice_bounds-hold-end-2 : goal.slice_bounds-hold-end-2
 slice_bounds-hold-end-2 c = sym (length_places c.args.tray.now c.requires)
 
@@ -19,7 +27,7 @@ hold-refused-requires c = length_places c.args.tray.now c.requires
 pub returns-then-refused-ne-ANSWERED : goal.returns-then-refused-ne-ANSWERED
 returns-then-refused-ne-ANSWERED c =
     let held = c.hold-refused.ensures in
-    let both = hold_refused _ _ c.requires _ _ held.number held.numbers c.if-refused-ne-ANSWERED.true in
+    let both = hold_refused _ _ c.requires _ _ held.number held.numbers (omega arith) in
     record { number = both.0; numbers = both.1 }
 
 pub keep_with-requires : goal.keep_with-requires
@@ -29,12 +37,5 @@ keep_with-requires c =
     let after = c.hold-refused.new.tray ++ drop places_size l in
     let small : (j : ℕ) → get_or after j 0 < span32 = λ j. search rules in (
       changed_size l c.requires c.hold-refused.new.tray (hold_size l _ c.requires _ _ held.number held.numbers),
-      rw c.answer_from-answer.ensures (answer_small _ c.args.place.index _ _ (hold_small l _ c.requires _ _ held.number held.numbers c.if-refused-ne-ANSWERED.false small)),
+      rw c.answer_from-answer.ensures (answer_small _ c.args.place.index _ _ (hold_small l _ c.requires _ _ held.number held.numbers (omega arith) small)),
     )
-
-pub returns : goal.returns
-returns c =
-    let held = c.hold-refused.ensures in
-    let both = hold_kept _ _ c.requires _ _ held.number held.numbers _ c.answer_from-answer.ensures c.if-refused-ne-ANSWERED.false
-    c.keep_with.ensures in
-    record { number = both.0; numbers = both.1 }
