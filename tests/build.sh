@@ -74,9 +74,9 @@ holds "the usage" grep -q '^build \[NAME \.\.\]' "$work/err"
 cd "$work" || exit 1
 ln -s top/tools/build linked
 : >"$work/calls"
-holds "a link to it, from another folder" "$work/linked" vi_work >/dev/null 2>&1
+holds "a link to it, from another folder" bash -c '"$0" vi_work >/dev/null 2>&1' "$work/linked"
 holds "it works in its own repository" test "$(cat "$work/calls")" = 'vi_work run'
-holds "files are left behind in target/" test "$(cd top && find target -type f | sort | tr '\n' ' ')" = "target/bin/vi_print target/bin/vi_work $archive $archive.from "
+holds "no other files are in target/" test "$(cd top && find target -type f | sort | tr '\n' ' ')" = "target/bin/vi_print target/bin/vi_work $archive $archive.from "
 
 [ "$bad" -eq 0 ] && echo "build: ok, $checks checks"
 exit "$bad"

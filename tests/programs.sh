@@ -30,12 +30,15 @@ for program in vi_print vi_work; do
     run=target/bin/$program
     says "$program, a folder" '^standard input: Is a directory' "$run <samples"
     says "$program, a closed input" '^standard input: Bad file descriptor' "$run <&-"
-    says "$program, a read that fails" '^standard input: Input/output error' "exec </proc/self/mem; $run; true"
     says "$program, a full disk" '^standard output: No space left' "$run <samples/three.sheet >/dev/full"
     says "$program, a closed output" '^standard output: Bad file descriptor' "$run <samples/three.sheet >&-"
 done
 says "vi_work, a refused sheet" '^not worked: the sheet is refused' 'target/bin/vi_work <samples/refused.sheet'
 says "vi_work, no input" '^not worked: the sheet is refused' 'target/bin/vi_work </dev/null'
+
+# A read that fails ends the input: what was read before it is worked, here no byte.
+says "vi_work, a read that fails" '^not worked: the sheet is refused' 'exec </proc/self/mem; target/bin/vi_work; true'
+holds "vi_print, a read that fails" test "$(bash -c 'exec </proc/self/mem; target/bin/vi_print; true')" = 'sheet refused 11'
 
 # A sheet of 65,536 bytes is worked, and one of a byte more is not: an empty one whose total says so.
 sized() {

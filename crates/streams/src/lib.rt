@@ -2,7 +2,7 @@
 // hold, so what is read and what is written is no promise here.
 #![tactic(auto)]
 
-ghost use Rattle.std.specs.Prelude.{◌≤◌, IfSome, length};
+ghost use Rattle.std.specs.Prelude.{◌≤◌, length};
 
 use std::io::{Error, Read};
 
@@ -23,23 +23,20 @@ pub fn can_read(rt: &(impl Input + Eprint)) -> bool {
     }
 }
 
-// Reads standard input into the buffer until it is full or the input ends, and says how many bytes that are. None where it cannot be read.
-pub fn read_input(rt: &(impl Input + Eprint), into: &mut [u8]) -> Option<usize>
-    ensures { IfSome result (λ count. count ≤ length into.old) }
+// Reads standard input into the buffer until it is full, the input ends or a read fails, and says how many bytes that are.
+pub fn read_input(rt: &impl Input, into: &mut [u8]) -> usize
+    ensures { result ≤ length into.old }
 {
     let mut reader = rt.reader();
     let mut count: usize = 0;
     while count < into.len() {
         match reader.read(&mut into[count..]) {
-            Ok(0) => return Some(count),
+            Ok(0) => return count,
             Ok(more) => count += more,
-            Err(why) => {
-                say_why(rt, "standard input", why);
-                return None;
-            }
+            Err(_) => return count,
         }
     }
-    Some(count)
+    count
 }
 
 // Writes the bytes to standard output.

@@ -7,9 +7,7 @@ fn main(rt: HostRuntime) {
         return;
     }
     let mut input = [0u8; report::INPUT_SIZE];
-    let Some(count) = streams::read_input(&rt, &mut input) else {
-        return;
-    };
+    let count = streams::read_input(&rt, &mut input);
     let mut text = [0u8; report::TEXT_SIZE];
     let written = report::print_sheet(&mut input[..count], &mut text);
     streams::write_output(&rt, &text[..written]);

@@ -26,8 +26,6 @@ fn main(rt: HostRuntime) {
         return;
     }
     let mut input = [0u8; report::INPUT_SIZE];
-    let Some(count) = streams::read_input(&rt, &mut input) else {
-        return;
-    };
+    let count = streams::read_input(&rt, &mut input);
     work(&rt, &mut input[..count]);
 }
