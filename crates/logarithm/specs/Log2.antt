@@ -3,7 +3,6 @@
 -- proofs/Rise.antt) and opens it only to compute the logarithm of a literal.
 use Rattle.std.specs.Prelude.{◌≡◌, List, ℕ, ◌+◌, ◌*◌, ◌-◌, ◌/◌, ◌%◌, ◌^◌, ◌≤◌, ◌<◌, get_or}
 use Rattle.std.specs.Int.Count.{count_leading_zeros}
-use Rattle.laws.specs.Bits.{span32}
 use Rattle.logarithm.specs.Scale.{scale, scale_number, width, unit, bound}
 use Rattle.logarithm.specs.Tables.{first_table, second_table}
 
@@ -55,9 +54,9 @@ zeros_of x = count_leading_zeros 64 (x / 2)
 unfoldable pub mantissa : ℕ → ℕ
 mantissa x = x * 2 ^ (zeros_of x - mantissa_zeros)
 
--- entry i of a table, which stands as two numbers of 32 bits, the lower half first
+-- entry i of a table
 unfoldable pub entry_at : List ℕ → ℕ → ℕ
-entry_at table i = get_or table (2 * i) 0 + span32 * get_or table (2 * i + 1) 0
+entry_at table i = get_or table i 0
 
 -- the entry of the mantissa m in a table whose slots are s apart
 unfoldable pub entry_of : List ℕ → ℕ → ℕ → ℕ

@@ -23,11 +23,9 @@
 mod tables;
 
 ghost use Rattle.std.specs.Prelude.{◌≡◌, ◌+◌, ◌*◌, ◌-◌, ◌/◌, ◌≤◌, ◌<◌};
-ghost use Rattle.laws.specs.Bits.{span32};
 ghost use Rattle.logarithm.specs.Scale.{unit};
-ghost use Rattle.logarithm.specs.Tables.{first_table, second_table};
-ghost use Rattle.logarithm.specs.Log2.{Enclosed, Reduces, entry_at, fraction_of, packing, slot_count};
-ghost use Rattle.logarithm.specs.Preconditions.{InRange, LentLogarithms};
+ghost use Rattle.logarithm.specs.Log2.{Enclosed, Reduces, fraction_of, packing, slot_count};
+ghost use Rattle.logarithm.specs.Preconditions.{InRange};
 
 use tables::{FIRST, SECOND};
 
@@ -37,14 +35,11 @@ const UNIT: u64 = 281474976710656;
 // E = 2^36, the units of a logarithm in 1.
 const SCALE: u64 = 68719476736;
 
-// An entry is t * PACKING + j. It stands as two numbers of 32 bits, the lower half first: the compiler copies those four at a time, and
-// numbers of 64 bits one at a time.
+// An entry is t * PACKING + j.
 const PACKING: u64 = 32768;
 
-const SPAN_32: u64 = 4294967296;
-
-// How many numbers a table has: 256 entries of two.
-pub const LOG_TABLE_SIZE: usize = 512;
+// How many entries a table has.
+const SLOT_COUNT: usize = 256;
 
 // The first level: slots 2^40 apart, factors over 2^16.
 const FIRST_SPACING: u64 = 1099511627776;
@@ -80,25 +75,10 @@ pub const LOG_10_7: u64 = 1_597_968_123_046;
 pub const Q: u64 = 16_777_216;
 
 // What a level leaves of a mantissa, and the logarithm of the factor that it took out.
-#[derive(Clone, Copy)]
+#[derive(Clone, Copy, Debug)]
 struct Reduced {
     mantissa: u64,
     log: u64,
-}
-
-// A number of 32 bits as one of 64. A parameter is known to fit its type, which a read through a lent array is not.
-pub fn wide(x: u32) -> u64
-    ensures { (result ≡ x) × (result < span32) }
-{
-    x as u64
-}
-
-// Entry i of a table, from its two halves.
-fn entry_at(table: &[u32; LOG_TABLE_SIZE], i: usize) -> u64
-    requires { i < slot_count }
-    ensures { result ≡ entry_at table.now i }
-{
-    wide(table[2 * i]) + SPAN_32 * wide(table[2 * i + 1])
 }
 
 // The logarithm in an entry.
@@ -109,11 +89,11 @@ fn log_in(entry: u64) -> u64
 }
 
 // One level: m times the factor over d that the table has for its slot, rounded down. Slots are s apart.
-fn reduce(table: &[u32; LOG_TABLE_SIZE], m: u64, s: u64, d: u64) -> Reduced
+fn reduce(table: &[u64; SLOT_COUNT], m: u64, s: u64, d: u64) -> Reduced
     requires { (unit ≤ m) × (m < 2 * unit) × (0 < s) × (packing ≤ d) × (d ≤ unit) × ((m - unit) / s < slot_count) }
     ensures { Reduces table.now s d m result.mantissa result.log }
 {
-    let p = entry_at(table, ((m - UNIT) / s) as usize);
+    let p = table[((m - UNIT) / s) as usize];
     let log = log_in(p);
     Reduced {
         mantissa: m - (m * (p % PACKING) + (d - 1)) / d,
@@ -122,39 +102,22 @@ fn reduce(table: &[u32; LOG_TABLE_SIZE], m: u64, s: u64, d: u64) -> Reduced
 }
 
 // The logarithm of m / UNIT.
-fn fraction(first: &[u32; LOG_TABLE_SIZE], second: &[u32; LOG_TABLE_SIZE], m: u64) -> u64
-    requires lent { LentLogarithms first.now second.now }
-    requires range { (unit ≤ m) × (m < 2 * unit) }
+fn fraction(m: u64) -> u64
+    requires { (unit ≤ m) × (m < 2 * unit) }
     ensures { (result ≡ fraction_of m) × (result < 16 * unit) }
 {
-    let a = reduce(first, m, FIRST_SPACING, FIRST_DIVISOR);
-    let b = reduce(second, a.mantissa, SECOND_SPACING, SECOND_DIVISOR);
+    let a = reduce(&FIRST, m, FIRST_SPACING, FIRST_DIVISOR);
+    let b = reduce(&SECOND, a.mantissa, SECOND_SPACING, SECOND_DIVISOR);
     a.log + (b.log + (b.mantissa - UNIT) * SLOPE / SLOPE_DIVISOR)
 }
 
-// The tables, to be held as locals and lent to log2_scaled: what these two promise is what its `LentLogarithms` asks for, and `search rules` passes
-// it on. A constant array that is read at an index known only when the program runs is copied whole on each call that reads it, so a
-// caller copies once for many logarithms.
-pub fn first_table() -> [u32; LOG_TABLE_SIZE]
-    ensures { result ≡ first_table }
-{
-    FIRST
-}
-
-pub fn second_table() -> [u32; LOG_TABLE_SIZE]
-    ensures { result ≡ second_table }
-{
-    SECOND
-}
-
-// The scaled logarithm of x. An inner function, for callers that know x to be in its range and hold the two lent tables.
-pub fn log2_scaled(first: &[u32; LOG_TABLE_SIZE], second: &[u32; LOG_TABLE_SIZE], x: u64) -> u64
-    requires lent { LentLogarithms first.now second.now }
-    requires range { InRange x }
+// The scaled logarithm of x. An inner function, for callers that know x to be in its range.
+pub fn log2_scaled(x: u64) -> u64
+    requires { InRange x }
     ensures { Enclosed x result }
 {
     // Of x / 2 and not of x: x86's instruction waits for the register that it writes, and the compiler clears that register first only where the
     // number may be 0. Of x, known not to be 0, each logarithm would wait for the one before (docs/PERFORMANCE.md).
     let zeros = u64::leading_zeros(x / 2) as u64;
-    fraction(first, second, x << (zeros - MANTISSA_ZEROS)) + (ONE_ZEROS - zeros) * SCALE
+    fraction(x << (zeros - MANTISSA_ZEROS)) + (ONE_ZEROS - zeros) * SCALE
 }

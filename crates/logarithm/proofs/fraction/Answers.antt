@@ -1,6 +1,5 @@
--- `logarithm::fraction` meets its contract: the lent tables are certified, so each level's answer is in the next one's range.
+-- `logarithm::fraction` meets its contract: the tables are certified, so each level's answer is in the next one's range.
 use Prim.Native.Nat.{◌+◌, ◌*◌, ◌≤◌, ◌<◌}
-use mathlib.Core.Path.{◌≡◌}
 use native.Mathlib.Omega.{arith}
 use Rattle.logarithm.specs.Scale.{unit}
 use Rattle.logarithm.specs.Tables.{first_table, second_table}
@@ -8,36 +7,36 @@ use Rattle.logarithm.specs.Log2.{second_spacing, slot_count}
 use Rattle.logarithm.proofs.Level.{tail_room, first_certified, second_certified}
 use Rattle.logarithm.proofs.Log2.{reduced_range, fraction_computed}
 use Rattle.logarithm.proofs.fraction.Goals as goal
+use Rattle.logarithm.proofs.fraction.Goals.{After-reduce-a, After-reduce-b}
 
 after_first :
-    (c : goal.After-reduce-a)
+    (c : After-reduce-a)
     → (unit ≤ c.reduce-a.result.mantissa) × (c.reduce-a.result.mantissa < unit + slot_count * second_spacing)
+unfolding first_table
 after_first c =
-    let e : c.args.first.now ≡ first_table = c.requires.lent.one in
-    let p = c.requires.range in
-    reduced_range first_certified (rw e at c.reduce-a.ensures) (omega arith) p.0 (omega (arith, p.1))
+    let p = c.requires in
+    reduced_range first_certified c.reduce-a.ensures (omega arith) p.0 (omega (arith, p.1))
 
 after_second :
-    (c : goal.After-struct_known-1)
+    (c : After-reduce-b)
     → (unit ≤ c.reduce-b.result.mantissa) × (c.reduce-b.result.mantissa < unit + tail_room)
+unfolding second_table
 after_second c =
-    let e : c.args.second.now ≡ second_table = c.requires.lent.two in
     let p = after_first c.before.before in
-    reduced_range second_certified (rw e at c.reduce-b.ensures) (omega arith) p.0 p.1
+    reduced_range second_certified c.reduce-b.ensures (omega arith) p.0 p.1
 
 pub reduce-b-requires : goal.reduce-b-requires
-reduce-b-requires c = omega (arith, after_first c)
+reduce-b-requires c = omega (arith, after_first c.before)
 
 pub overflow_sub-result : goal.overflow_sub-result
-overflow_sub-result c = omega (arith, after_second c)
+overflow_sub-result c = omega (arith, after_second c.before)
 
 pub overflow_mul-result : goal.overflow_mul-result
-overflow_mul-result c = omega (arith, after_second c)
+overflow_mul-result c = omega (arith, after_second c.before)
 
 pub returns : goal.returns
-returns c =
-    let e1 : c.args.first.now ≡ first_table = c.requires.lent.one in
-    let e2 : c.args.second.now ≡ second_table = c.requires.lent.two in (
-      fraction_computed _ _ _ _ _ (rw e1 at c.reduce-a.ensures) (rw e2 at c.reduce-b.ensures),
-      omega (arith, after_second c.before.before),
-    )
+unfolding first_table second_table
+returns c = (
+  fraction_computed _ _ _ _ _ c.reduce-a.ensures c.reduce-b.ensures,
+  omega (arith, after_second c.before.before.before),
+)

@@ -1,9 +1,11 @@
 -- `logarithm::reduce` meets its contract: what is taken off the mantissa is at most the mantissa, and no product wraps.
 use Prim.Native.Nat.{ℕ, ◌*◌, ◌%◌, ◌-◌, ◌+◌, ◌/◌, ◌≤◌, ◌<◌}
 use native.Mathlib.Nat.{mul-le-mul_left, div-lt_iff_lt-mul}
+use mathlib.Core.Path.{refl}
+use Rattle.std.specs.Prelude.{get_or}
 use native.Mathlib.Omega.{arith}
 use Rattle.logarithm.specs.Scale.{unit}
-use Rattle.logarithm.specs.Log2.{packing, times_factor}
+use Rattle.logarithm.specs.Log2.{packing, entry_at, times_factor}
 use Rattle.logarithm.proofs.Log2.{reduces}
 use Rattle.logarithm.proofs.reduce.Goals as goal
 
@@ -22,17 +24,17 @@ factor_off m p d e h l =
 
 pub overflow_mul-result : goal.overflow_mul-result
 overflow_mul-result c =
-    omega (arith, product_small c.args.m c.entry_at-p.result c.requires.1)
+    omega (arith, product_small c.args.m (get_or c.args.table.now ((c.args.m - unit) / c.args.s) 0) c.requires.1)
 
 pub overflow_add-result : goal.overflow_add-result
 overflow_add-result c =
-    omega (arith, product_small c.args.m c.entry_at-p.result c.requires.1)
+    omega (arith, product_small c.args.m (get_or c.args.table.now ((c.args.m - unit) / c.args.s) 0) c.requires.1)
 
 pub overflow_sub-result-2 : goal.overflow_sub-result-2
 overflow_sub-result-2 c = factor_off c.args.m _ c.args.d _ c.requires.3 (omega (arith, c.requires.3))
 
 pub returns : goal.returns
-unfolding times_factor
+unfolding times_factor entry_at
 returns c =
     let a = c.args in
-    reduces a.table.now a.s a.d a.m _ _ c.entry_at-p.ensures c.log_in-log.ensures.0 c.log_in-log.ensures.1
+    reduces a.table.now a.s a.d a.m _ _ refl c.log_in-log.ensures.0 c.log_in-log.ensures.1
