@@ -2,14 +2,13 @@
 ghost use Rattle.std.specs.Prelude.{◌≡◌, ◌≤◌, ◌+◌, ◌*◌, ◌-◌, leb};
 ghost use Rattle.logarithm.specs.Scale.{width, log10, log10000000};
 ghost use Rattle.logarithm.specs.Log2.{log2_of};
-ghost use Rattle.logarithm.specs.Preconditions.{LentLogarithms};
 ghost use Rattle.logarithm.specs.Fractions.{Q_number};
 ghost use Rattle.shown_index.specs.Terms.{c, least_index, most_index};
 ghost use Rattle.shown_index.specs.ChosenIndex.{most_lower, most_upper, shows_least};
 ghost use Rattle.shown_index.specs.Preconditions.{LogOfC, least_r, most_r};
 
 use crate::LEAST_INDEX;
-use logarithm::{LOG_10, LOG_10_7, LOG_TABLE_SIZE, Q, WIDTH};
+use logarithm::{LOG_10, LOG_10_7, Q, WIDTH};
 
 // c at an index of 100, which is 10^7, and by how much c grows from one hundredth of an index to the next.
 pub const C_AT_100: u64 = 10_000_000;
@@ -25,12 +24,11 @@ fn c_of(r: u64) -> u64
 }
 
 // The logarithm of c(r), for an r at which the code looks.
-pub fn log_c(first: &[u32; LOG_TABLE_SIZE], second: &[u32; LOG_TABLE_SIZE], r: u64) -> u64
-    requires lent { LentLogarithms first.now second.now }
-    requires range { (100 * least_index + 50 ≤ r) × (r ≤ 100 * most_index + 50) }
+pub fn log_c(r: u64) -> u64
+    requires { (100 * least_index + 50 ≤ r) × (r ≤ 100 * most_index + 50) }
     ensures { (result ≡ log2_of (c r)) × LogOfC result }
 {
-    logarithm::log2_scaled(first, second, c_of(r))
+    logarithm::log2_scaled(c_of(r))
 }
 
 // Do the logarithms show that p shows "at least r"? lc is the logarithm of c(r); 10^7 is taken off it, so that the products fit 64 bits.
@@ -50,18 +48,12 @@ pub fn shows_most(lc: u64, upper: u64) -> bool
 }
 
 // Is at least k − 0.5 shown? Of 100 it always is: c is below 10^7 there.
-pub fn shown_below(
-    first: &[u32; LOG_TABLE_SIZE],
-    second: &[u32; LOG_TABLE_SIZE],
-    k: u64,
-    p: u64,
-) -> bool
-    requires lent { LentLogarithms first.now second.now }
-    requires range { (least_index ≤ k) × (k ≤ most_index) × (p ≤ most_lower) }
+pub fn shown_below(k: u64, p: u64) -> bool
+    requires { (least_index ≤ k) × (k ≤ most_index) × (p ≤ most_lower) }
     ensures { result ≡ shows_least p (100 * k - 50) }
 {
     if k <= LEAST_INDEX {
         return true;
     }
-    shows_least(log_c(first, second, 100 * k - 50), p)
+    shows_least(log_c(100 * k - 50), p)
 }

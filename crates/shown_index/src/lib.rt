@@ -8,19 +8,17 @@
 #![tactic(auto)]
 
 mod compare;
+mod fractions;
 mod guess;
 mod search;
 mod threshold_table;
 mod thresholds;
 
-ghost use Rattle.std.specs.Prelude.{◌≡◌, ◌<◌, ◌≤◌, ◌+◌};
-ghost use Rattle.logarithm.specs.Preconditions.{LentLogarithms};
+ghost use Rattle.std.specs.Prelude.{◌≡◌};
 ghost use Rattle.shown_index.specs.RightIndex.{RightIndex};
-ghost use Rattle.shown_index.specs.ThresholdTable.{threshold_table};
-ghost use Rattle.shown_index.specs.ChosenIndex.{most_lower, chosen_index};
+ghost use Rattle.shown_index.specs.ChosenIndex.{chosen_index};
 
-use logarithm::LOG_TABLE_SIZE;
-pub use thresholds::{THRESHOLDS_TABLE_SIZE, thresholds_table};
+pub use fractions::Fractions;
 
 // Between which numbers an index by procedure B lies.
 const LEAST_INDEX: u64 = 100;
@@ -28,14 +26,14 @@ const LEAST_INDEX: u64 = 100;
 const MOST_INDEX: u64 = 10_000;
 
 // How sure an index of procedure B is: document 01's terms "settled" and "near".
-#[derive(Clone, Copy)]
+#[derive(Clone, Copy, Debug, PartialEq, Eq)]
 pub enum Mark {
     Settled,
     Near,
 }
 
 // What procedure B answers: the index, from 100 to 10,000; its mark; and p (lower) and P (upper), the numerators of its two fractions over Q.
-#[derive(Clone, Copy)]
+#[derive(Clone, Copy, Debug, PartialEq, Eq)]
 pub struct ByB {
     pub index: u32,
     pub mark: Mark,
@@ -43,24 +41,13 @@ pub struct ByB {
     pub upper: u32,
 }
 
-// The index that p and P show, by the table of thresholds where it tells. An inner function, for callers that have found p and P and hold the
-// lent tables.
-pub fn index_of_fractions(
-    first: &[u32; LOG_TABLE_SIZE],
-    second: &[u32; LOG_TABLE_SIZE],
-    thresholds: &[u32; THRESHOLDS_TABLE_SIZE],
-    p: u64,
-    upper: u64,
-) -> ByB
-    requires lent { LentLogarithms first.now second.now }
-    requires listed { thresholds.now ≡ threshold_table }
-    requires fractions { (p ≤ most_lower) × (p < upper) × (upper ≤ p + 2) }
-    ensures value { result ≡ chosen_index p upper }
+// The index that two fractions show, by the table of thresholds where it tells.
+pub fn index_of_fractions(n: Fractions) -> ByB
+    ensures value { result ≡ chosen_index n.lower n.upper }
     ensures right { RightIndex result }
 {
-    let k = thresholds::settled_index(thresholds, p, upper);
-    if k != 0 {
-        return search::by_b(k, Mark::Settled, p, upper);
+    match thresholds::settled_index(n) {
+        Some(k) => search::by_b(k, Mark::Settled, n),
+        None => search::searched_index(n),
     }
-    search::searched_index(first, second, p, upper)
 }

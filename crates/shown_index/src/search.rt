@@ -1,16 +1,14 @@
 // The index where the table of thresholds does not tell: the guess is tried, and k is searched where the guess was wrong.
 ghost use Rattle.std.specs.Prelude.{◌≡◌, ◌<◌, ◌≤◌};
-ghost use Rattle.logarithm.specs.Preconditions.{LentLogarithms};
 ghost use Rattle.shown_index.specs.Terms.{least_index, most_index};
-ghost use Rattle.shown_index.specs.ChosenIndex.{most_lower, most_upper, whole_of, made, marked_of, trial_of, chosen_index};
+ghost use Rattle.shown_index.specs.ChosenIndex.{most_lower, whole_of, made, marked_of, trial_of, chosen_index};
 
 use crate::compare::{log_c, shown_below, shows_least, shows_most};
 use crate::guess::guess;
-use crate::{ByB, LEAST_INDEX, MOST_INDEX, Mark};
-use logarithm::LOG_TABLE_SIZE;
+use crate::{ByB, Fractions, LEAST_INDEX, MOST_INDEX, Mark};
 
 // What trying k says of the index: k is settled, k + 1 is near, the index is higher, or it is lower.
-#[derive(Clone, Copy)]
+#[derive(Clone, Copy, Debug, PartialEq, Eq)]
 pub enum Trial {
     Settled,
     Near,
@@ -19,23 +17,16 @@ pub enum Trial {
 }
 
 // What trying k says.
-fn try_index(
-    first: &[u32; LOG_TABLE_SIZE],
-    second: &[u32; LOG_TABLE_SIZE],
-    k: u64,
-    p: u64,
-    upper: u64,
-) -> Trial
-    requires lent { LentLogarithms first.now second.now }
-    requires range { (least_index ≤ k) × (k < most_index) × (p ≤ most_lower) × (upper ≤ most_upper) }
-    ensures { result ≡ trial_of k p upper }
+fn try_index(k: u64, n: Fractions) -> Trial
+    requires { (least_index ≤ k) × (k < most_index) }
+    ensures { result ≡ trial_of k n.lower n.upper }
 {
-    let above = log_c(first, second, 100 * k + 50);
-    if shows_least(above, p) {
+    let above = log_c(100 * k + 50);
+    if shows_least(above, n.lower) {
         return Trial::Higher;
     }
-    if shown_below(first, second, k, p) {
-        if shows_most(above, upper) {
+    if shown_below(k, n.lower) {
+        if shows_most(above, n.upper) {
             return Trial::Settled;
         }
         return Trial::Near;
@@ -43,17 +34,16 @@ fn try_index(
     Trial::Lower
 }
 
-// The search for k by halving, where the guess was wrong.
-fn search(first: &[u32; LOG_TABLE_SIZE], second: &[u32; LOG_TABLE_SIZE], p: u64) -> u64
-    requires lent { LentLogarithms first.now second.now }
-    requires few { p ≤ most_lower }
+// The search for k by halving, where the guess was wrong. The library halves a slice, and here there is none: lo and hi are indices of no array.
+fn search(p: u64) -> u64
+    requires { p ≤ most_lower }
     ensures { result ≡ whole_of p }
 {
     let mut lo: u64 = LEAST_INDEX;
     let mut hi: u64 = MOST_INDEX;
     while lo + 1 < hi {
         let middle = (lo + hi) / 2;
-        if shown_below(first, second, middle, p) {
+        if shown_below(middle, p) {
             lo = middle;
         } else {
             hi = middle;
@@ -62,52 +52,38 @@ fn search(first: &[u32; LOG_TABLE_SIZE], second: &[u32; LOG_TABLE_SIZE], p: u64)
     lo
 }
 
-// An index by procedure B, from numbers that are known to fit.
-pub fn by_b(k: u64, mark: Mark, p: u64, upper: u64) -> ByB
-    requires { (k ≤ most_index) × (p ≤ most_lower) × (upper ≤ most_upper) }
-    ensures { result ≡ made k mark p upper }
+// An index by procedure B, from a k and fractions that are known to fit.
+pub fn by_b(k: u64, mark: Mark, n: Fractions) -> ByB
+    requires { k ≤ most_index }
+    ensures { result ≡ made k mark n.lower n.upper }
 {
     ByB {
         index: k as u32,
         mark,
-        lower: p as u32,
-        upper: upper as u32,
+        lower: n.lower as u32,
+        upper: n.upper as u32,
     }
 }
 
 // The index and mark for a k that was searched: settled k, or near k + 1.
-fn mark_of(
-    first: &[u32; LOG_TABLE_SIZE],
-    second: &[u32; LOG_TABLE_SIZE],
-    k: u64,
-    p: u64,
-    upper: u64,
-) -> ByB
-    requires lent { LentLogarithms first.now second.now }
-    requires range { (least_index ≤ k) × (k < most_index) × (p ≤ most_lower) × (upper ≤ most_upper) }
-    ensures { result ≡ marked_of k p upper }
+fn mark_of(k: u64, n: Fractions) -> ByB
+    requires { (least_index ≤ k) × (k < most_index) }
+    ensures { result ≡ marked_of k n.lower n.upper }
 {
-    if shows_most(log_c(first, second, 100 * k + 50), upper) {
-        return by_b(k, Mark::Settled, p, upper);
+    if shows_most(log_c(100 * k + 50), n.upper) {
+        return by_b(k, Mark::Settled, n);
     }
-    by_b(k + 1, Mark::Near, p, upper)
+    by_b(k + 1, Mark::Near, n)
 }
 
 // The index of p and P: the guess, where it proves right; otherwise the search.
-pub fn searched_index(
-    first: &[u32; LOG_TABLE_SIZE],
-    second: &[u32; LOG_TABLE_SIZE],
-    p: u64,
-    upper: u64,
-) -> ByB
-    requires lent { LentLogarithms first.now second.now }
-    requires few { (p ≤ most_lower) × (upper ≤ most_upper) }
-    ensures { result ≡ chosen_index p upper }
+pub fn searched_index(n: Fractions) -> ByB
+    ensures { result ≡ chosen_index n.lower n.upper }
 {
-    let k = guess(p);
-    match try_index(first, second, k, p, upper) {
-        Trial::Settled => by_b(k, Mark::Settled, p, upper),
-        Trial::Near => by_b(k + 1, Mark::Near, p, upper),
-        _ => mark_of(first, second, search(first, second, p), p, upper),
+    let k = guess(n.lower);
+    match try_index(k, n) {
+        Trial::Settled => by_b(k, Mark::Settled, n),
+        Trial::Near => by_b(k + 1, Mark::Near, n),
+        _ => mark_of(search(n.lower), n),
     }
 }

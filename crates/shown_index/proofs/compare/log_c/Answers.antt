@@ -9,4 +9,4 @@ pub returns : goal.returns
 returns c =
     let s = c in
     let e : c.log2_scaled.result ≡ log2_of (c' s.args.r) = c.log2_scaled.ensures.value ∙ ap log2_of c.c_of.ensures in
-    (e, rw e (log_of_c s.args.r s.requires.range.0 s.requires.range.1))
+    (e, rw e (log_of_c s.args.r s.requires.0 s.requires.1))

@@ -6,7 +6,7 @@ use Rattle.shown_index.proofs.Halving.{Bracket, bracket_start, bracket_up, brack
 use Rattle.shown_index.proofs.search.search.Goals as goal
 
 pub loop-lo-init : goal.loop-lo-init
-loop-lo-init c = bracket_start c.args.p c.requires.few
+loop-lo-init c = bracket_start c.args.p c.requires
 
 pub overflow_add-lo : goal.overflow_add-lo
 overflow_add-lo c = omega (arith, c.loop-lo.invariant)
@@ -15,7 +15,7 @@ pub overflow_add-middle : goal.overflow_add-middle
 overflow_add-middle c = omega (arith, c.loop-lo.invariant)
 
 pub shown_below-requires : goal.shown_below-requires
-shown_below-requires c = record { lent = c.requires.lent; range = omega (arith, c.loop-lo.invariant) }
+shown_below-requires c = omega (arith, c.loop-lo.invariant)
 
 pub loop-lo-smaller-then-shown_below : goal.loop-lo-smaller-then-shown_below
 loop-lo-smaller-then-shown_below c = omega (arith, c.loop-lo.invariant)
@@ -33,4 +33,4 @@ pub returns : goal.returns
 returns c =
     let l = c.loop-lo in
     let e : l.hi ≡ l.lo + 1 = omega (arith, l.invariant) in
-    only_one c.args.p l.lo c.requires.few (subst (λ (h : ℕ). Bracket c.args.p l.lo h) e l.invariant)
+    only_one c.args.p l.lo c.requires (subst (λ (h : ℕ). Bracket c.args.p l.lo h) e l.invariant)
