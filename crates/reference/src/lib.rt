@@ -3,15 +3,12 @@
 // whole numbers of thousandths of a mm²/s, L and H whole numbers of 10^-10 mm²/s.
 //
 // One word for one thing: the reference oils are the two oils, and the basis is L and H.
-//
-// A constant array that is read at an index not known before is written to the stack on each call. So whoever asks often holds
-// rows_table() in a local once and lends it; the functions that are lent it say in their `requires` that they were lent that table.
 #![tactic(auto)]
 
 ghost use Rattle.std.specs.Prelude.{◌≡◌, ◌<◌, ◌≤◌, ◌+◌, ◌*◌, ◌-◌};
 ghost use Rattle.reference.specs.Viscosity.{least100, greatest100, least40, greatest40, asked100, asked40, in_units};
 ghost use Rattle.reference.specs.Table1.{table1};
-ghost use Rattle.reference.specs.Basis.{row_size, entry, last_row, whole_way, place_of, InTable, straight_line, column_of, at_place, by_quadratic, source_of, basis_value, basis_of, basis_answer_of};
+ghost use Rattle.reference.specs.Basis.{row_size, row_count, entry, last_row, whole_way, place_of, InTable, straight_line, column_of, at_place, by_quadratic, source_of, basis_value, basis_of, basis_answer_of};
 
 use row::find_row;
 use table1::TABLE1;
@@ -150,23 +147,11 @@ pub fn source_of(y: Kv100) -> Source
 // ---- the value at a place of Table 1
 
 // A row of the table is two entries, L and then H.
-const ROW_COUNT: usize = 311;
-
 const ROW_SIZE: usize = 2;
 
 const COLUMN_L: usize = 0;
 
 const COLUMN_H: usize = 1;
-
-// How many entries the table has: what is lent is an array of so many.
-pub const ROWS_TABLE_SIZE: usize = ROW_SIZE * ROW_COUNT;
-
-// Table 1, to be held as a local and lent.
-pub fn rows_table() -> [u32; ROWS_TABLE_SIZE]
-    ensures { result ≡ table1 }
-{
-    TABLE1
-}
 
 // The entry of a row that is a reference oil's.
 fn column_of(oil: ReferenceOil) -> usize
@@ -187,23 +172,25 @@ fn straight_line(a: u32, b: u32, share: u32) -> u64
     in_units(a) + (rise as u64) * ((share as u64) * UNITS_PER_MILLIONTH)
 }
 
+// A reference oil's entry of a row. The source's table is that of specs/.
+fn entry(oil: ReferenceOil, row: usize) -> u32
+    requires { row < row_count }
+    ensures table { TABLE1 ≡ table1 }
+    ensures value { result ≡ entry (column_of oil) row }
+{
+    TABLE1[ROW_SIZE * row + column_of(oil)]
+}
+
 // L or H at a place of the table.
-fn at_place(rows: &[u32; ROWS_TABLE_SIZE], oil: ReferenceOil, p: Place) -> u64
-    requires lent { rows.now ≡ table1 }
-    requires in_table { InTable p }
+fn at_place(oil: ReferenceOil, p: Place) -> u64
+    requires { InTable p }
     ensures { result ≡ at_place (entry (column_of oil)) p }
 {
-    let column = column_of(oil);
-    let row = p.row;
-    let share = p.share;
-    if share == 0 {
-        return in_units(rows[ROW_SIZE * row + column]);
+    let a = entry(oil, p.row);
+    if p.share == 0 {
+        return in_units(a);
     }
-    straight_line(
-        rows[ROW_SIZE * row + column],
-        rows[ROW_SIZE * (row + 1) + column],
-        share,
-    )
+    straight_line(a, entry(oil, p.row + 1), p.share)
 }
 
 // ---- the value by the quadratics
@@ -230,19 +217,13 @@ fn by_quadratic(oil: ReferenceOil, y: u32) -> u64
 
 // ---- L and H
 
-// L or H at y, by y's source. An inner function, for callers that have asked y's questions and hold the lent table.
-pub fn basis_value(
-    rows: &[u32; ROWS_TABLE_SIZE],
-    oil: ReferenceOil,
-    y: Kv100,
-    source: Source,
-) -> u64
-    requires lent { rows.now ≡ table1 }
-    requires asked { (least100 ≤ y.thousandths) × (y.thousandths ≤ greatest100) × (source ≡ source_of y.thousandths) }
+// L or H at y, by y's source. An inner function, for callers that have asked y's questions.
+pub fn basis_value(oil: ReferenceOil, y: Kv100, source: Source) -> u64
+    requires { (least100 ≤ y.thousandths) × (y.thousandths ≤ greatest100) × (source ≡ source_of y.thousandths) }
     ensures { result ≡ basis_value oil y.thousandths }
 {
     match source {
-        Source::Table(place) => at_place(rows, oil, place),
+        Source::Table(place) => at_place(oil, place),
         Source::Quadratics => by_quadratic(oil, y.thousandths),
     }
 }
@@ -254,23 +235,15 @@ pub struct Basis {
     pub h: u64,
 }
 
-// L and H at y. An inner function, for callers that have asked y's questions. The table is copied only for a y that stands in it.
+// L and H at y. An inner function, for callers that have asked y's questions.
 pub fn basis_of(y: Kv100) -> Basis
     requires { (least100 ≤ y.thousandths) × (y.thousandths ≤ greatest100) }
     ensures { result ≡ basis_of y.thousandths }
 {
-    match source_of(y) {
-        Source::Table(place) => {
-            let rows = rows_table();
-            Basis {
-                l: at_place(&rows, ReferenceOil::L, place),
-                h: at_place(&rows, ReferenceOil::H, place),
-            }
-        }
-        Source::Quadratics => Basis {
-            l: by_quadratic(ReferenceOil::L, y.thousandths),
-            h: by_quadratic(ReferenceOil::H, y.thousandths),
-        },
+    let source = source_of(y);
+    Basis {
+        l: basis_value(ReferenceOil::L, y, source),
+        h: basis_value(ReferenceOil::H, y, source),
     }
 }
 

@@ -1,6 +1,6 @@
 // Table 1 of ASTM D2270: L and then H of each of the 311 rows, in thousandths of a mm²/s.
 // Written by tools/table1 from data/table1.txt.
-pub const TABLE1: [u32; 622] = [
+pub static TABLE1: [u32; 622] = [
     // 2.0
     7994, 6394,
     // 2.1

@@ -1,27 +1,20 @@
--- A place's value: what is read from the lent rows is the table's entry; on a row the next one is not read.
-use mathlib.Core.Path.{◌≡◌, ◌∙◌}
+-- A place's value: on a row the next one is not read.
+use mathlib.Core.Path.{◌∙◌}
 use native.Mathlib.Omega.{arith}
 use borrow.Author.Tests.{eq-eqb, ne_eqb}
-use Rattle.reference.specs.Basis.{entry, at_place}
-use Rattle.reference.specs.Table1.{table1}
+use Rattle.reference.specs.Basis.{at_place}
 use Rattle.reference.proofs.Rise.{entries_rise}
 use Rattle.reference.proofs.at_place.Goals as goal
 
-pub returns-then-share-eq0 : goal.returns-then-share-eq0
-unfolding entry at_place
-returns-then-share-eq0 c =
-    let e : c.args.rows.now ≡ table1 = c.requires.lent in
-    c.in_units.ensures ∙ rw (eq-eqb _ _ c.if-share-eq0.true, e, c.column_of-column.ensures.0)
+pub returns-then-p-eq0 : goal.returns-then-p-eq0
+unfolding at_place
+returns-then-p-eq0 c = c.in_units.ensures ∙ rw (eq-eqb _ _ c.if-p-eq0.true, c.entry-a.ensures.value)
 
 pub straight_line-requires : goal.straight_line-requires
-unfolding entry
 straight_line-requires c =
-    let e : c.args.rows.now ≡ table1 = c.requires.lent in
-    let next = c.requires.in_table.next c.if-share-eq0.false in
-    (rw (e, c.column_of-column.ensures.0) (entries_rise c.args.oil c.args.p.row (omega arith)), omega arith)
+    let next = c.requires.next c.if-p-eq0.false in
+    (rw (c.entry-a.ensures.value, c.entry.ensures.value) (entries_rise c.args.oil c.args.p.row (omega arith)), omega (arith, c.requires.inside))
 
 pub returns : goal.returns
-unfolding entry at_place
-returns c =
-    let e : c.args.rows.now ≡ table1 = c.requires.lent in
-    c.straight_line.ensures ∙ rw (ne_eqb _ _ c.if-share-eq0.false, e, c.column_of-column.ensures.0)
+unfolding at_place
+returns c = c.straight_line.ensures ∙ rw (ne_eqb _ _ c.if-p-eq0.false, c.entry-a.ensures.value, c.entry.ensures.value)
