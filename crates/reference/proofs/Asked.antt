@@ -1,21 +1,21 @@
 -- What the constructors of the two viscosities answer.
 use Prim.Native.Nat.{ℕ, ◌<◌, ◌≤◌}
+use Rattle.std.specs.Prelude.{Ok, Err}
 use mathlib.Core.Path.{◌≡◌, sym, ◌∙◌, ap}
 use borrow.Author.Tests.{lt-ltb, le-ltb}
 use Rattle.laws.proofs.Contradiction.{impossible}
 use Rattle.laws.proofs.Order.{by_order}
 use Rattle.reference.specs.declared.Kv100.{Kv100}
 use Rattle.reference.specs.declared.Kv40.{Kv40}
-use Rattle.reference.specs.declared.Asked100.TheVariants as at100
-use Rattle.reference.specs.declared.Asked40.TheVariants as at40
+use Rattle.reference.specs.declared.refusal.Refusal.TheVariants.{ThinAt100, ThickAt100, ThickAt40}
 use Rattle.reference.specs.Viscosity.{least100, greatest100, greatest40, asked100, asked40}
 
 -- ---- the cases of an answer
 
 pub by_asked100 : {P : Type 0} (y : ℕ)
-    → (y < least100 → asked100 y ≡ at100.Refused 1 → P)
-    → (least100 ≤ y → greatest100 < y → asked100 y ≡ at100.Refused 2 → P)
-    → (least100 ≤ y → y ≤ greatest100 → asked100 y ≡ at100.Within (record { thousandths = y }) → P) → P
+    → (y < least100 → asked100 y ≡ Err ThinAt100 → P)
+    → (least100 ≤ y → greatest100 < y → asked100 y ≡ Err ThickAt100 → P)
+    → (least100 ≤ y → y ≤ greatest100 → asked100 y ≡ Ok (record { thousandths = y }) → P) → P
 by_asked100 y low high within =
     by_order y least100 (λ a. low a (rw (lt-ltb y least100 a)))
     (λ a. by_order greatest100 y
@@ -23,8 +23,8 @@ by_asked100 y low high within =
     (λ b. within a b (rw (le-ltb y least100 a, le-ltb greatest100 y b))))
 
 pub by_asked40 : {P : Type 0} (u : ℕ)
-    → (greatest40 < u → asked40 u ≡ at40.Refused 3 → P)
-    → (u ≤ greatest40 → asked40 u ≡ at40.Within (record { thousandths = u }) → P) → P
+    → (greatest40 < u → asked40 u ≡ Err ThickAt40 → P)
+    → (u ≤ greatest40 → asked40 u ≡ Ok (record { thousandths = u }) → P) → P
 by_asked40 u high within =
     by_order greatest40 u (λ b. high b (rw (lt-ltb greatest40 u b))) (λ b. within b (rw (le-ltb greatest40 u b)))
 
@@ -35,12 +35,12 @@ pub record Within100 (y : ℕ) (v : Kv100) : Type 0 where
   pub greatest : y ≤ greatest100
   pub same : v.thousandths ≡ y
 
-pub within100 : (y : ℕ) (v : Kv100) → asked100 y ≡ at100.Within v → Within100 y v
+pub within100 : (y : ℕ) (v : Kv100) → asked100 y ≡ Ok v → Within100 y v
 within100 y v e =
     by_asked100 y
-    (λ a r. let f : at100.Refused 1 ≡ at100.Within v = sym r ∙ e in impossible cc)
-    (λ a b r. let f : at100.Refused 2 ≡ at100.Within v = sym r ∙ e in impossible cc)
-    (λ a b r. let f : at100.Within (record { thousandths = y }) ≡ at100.Within v = sym r ∙ e in
+    (λ a r. let f : Err ThinAt100 ≡ Ok v = sym r ∙ e in impossible cc)
+    (λ a b r. let f : Err ThickAt100 ≡ Ok v = sym r ∙ e in impossible cc)
+    (λ a b r. let f : Ok (record { thousandths = y }) ≡ Ok v = sym r ∙ e in
     let g : ◌≡◌ {A = Kv100} (record { thousandths = y }) v = cc in
     record { least = a; greatest = b; same = sym (ap (λ (k : Kv100). k.thousandths) g) })
 
@@ -48,10 +48,10 @@ pub record Within40 (u : ℕ) (v : Kv40) : Type 0 where
   pub greatest : u ≤ greatest40
   pub same : v.thousandths ≡ u
 
-pub within40 : (u : ℕ) (v : Kv40) → asked40 u ≡ at40.Within v → Within40 u v
+pub within40 : (u : ℕ) (v : Kv40) → asked40 u ≡ Ok v → Within40 u v
 within40 u v e =
     by_asked40 u
-    (λ b r. let f : at40.Refused 3 ≡ at40.Within v = sym r ∙ e in impossible cc)
-    (λ b r. let f : at40.Within (record { thousandths = u }) ≡ at40.Within v = sym r ∙ e in
+    (λ b r. let f : Err ThickAt40 ≡ Ok v = sym r ∙ e in impossible cc)
+    (λ b r. let f : Ok (record { thousandths = u }) ≡ Ok v = sym r ∙ e in
     let g : ◌≡◌ {A = Kv40} (record { thousandths = u }) v = cc in
     record { greatest = b; same = sym (ap (λ (k : Kv40). k.thousandths) g) })

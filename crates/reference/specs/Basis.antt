@@ -1,15 +1,13 @@
 -- Document 01, 'L and H': y is a kinematic viscosity at 100 °C in thousandths of a mm²/s; L and H are in units of 10^-10 mm²/s.
-use Rattle.std.specs.Prelude.{ℕ, ◌+◌, ◌*◌, ◌-◌, ◌/◌, ◌%◌, ◌<◌, ◌≡◌, cond, ltb, leb, eqb, get_or}
+use Rattle.std.specs.Prelude.{ℕ, ◌+◌, ◌*◌, ◌-◌, ◌/◌, ◌%◌, ◌<◌, ◌≡◌, cond, ltb, leb, eqb, get_or, Result, Ok, Err}
 use Rattle.reference.specs.declared.Place.{Place}
 use Rattle.reference.specs.declared.Source.{Source}
 use Rattle.reference.specs.declared.Source.TheVariants.{Table, Quadratics}
 use Rattle.reference.specs.declared.ReferenceOil.{ReferenceOil}
 use Rattle.reference.specs.declared.ReferenceOil.TheVariants as oil
 use Rattle.reference.specs.declared.Basis.{Basis}
-use Rattle.reference.specs.declared.BasisAnswer.{BasisAnswer}
-use Rattle.reference.specs.declared.BasisAnswer.TheVariants.{Refused, Found}
-use Rattle.reference.specs.declared.Asked100.{Asked100}
-use Rattle.reference.specs.declared.Asked100.TheVariants as at100
+use Rattle.reference.specs.declared.Kv100.{Kv100}
+use Rattle.reference.specs.declared.refusal.Refusal.{Refusal}
 use Rattle.reference.specs.Viscosity.{asked100, in_units}
 use Rattle.reference.specs.Table1.{table1}
 
@@ -88,12 +86,12 @@ h_at y = cond (leb y last_row) (at_place row_h (place_of y)) (quadratic_h y)
 abbrev pub basis_of : ℕ → Basis
 basis_of y = record { l = l_at y; h = h_at y }
 
--- "The request for L and H alone takes y and asks the first two": the number or the values of each case of its answer
-abbrev pub basis_answered : Asked100 → BasisAnswer
-basis_answered (at100.Refused number) = Refused number
-basis_answered (at100.Within v) = Found (basis_of v.thousandths)
+-- "The request for L and H alone takes y and asks the first two": the refusal or the values of each case of its answer
+abbrev pub basis_answered : Result Kv100 Refusal → Result Basis Refusal
+basis_answered (Err refusal) = Err refusal
+basis_answered (Ok v) = Ok (basis_of v.thousandths)
 
-abbrev pub basis_answer_of : ℕ → BasisAnswer
+abbrev pub basis_answer_of : ℕ → Result Basis Refusal
 basis_answer_of y = basis_answered (asked100 y)
 
 -- ---- for inner functions alone: places of the table, and the same by parts, as the code finds them

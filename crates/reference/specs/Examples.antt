@@ -1,9 +1,8 @@
 -- Document 01, 'Pairs and sheets to try': the starred examples about L and H, in units of 10^-10 mm²/s, as one statement.
 -- And what else can be held against the papers without a program: the limits, the quadratics at three viscosities, and the rows where the sources
 -- differ. proofs/Examples.antt shows all from the definitions by computation.
-use Rattle.std.specs.Prelude.{◌<◌, ◌≡◌}
-use Rattle.reference.specs.declared.Asked40.TheVariants as at40
-use Rattle.reference.specs.declared.BasisAnswer.TheVariants.{Refused, Found}
+use Rattle.std.specs.Prelude.{◌<◌, ◌≡◌, Ok, Err}
+use Rattle.reference.specs.declared.refusal.Refusal.TheVariants.{ThinAt100, ThickAt100, ThickAt40}
 use Rattle.reference.specs.Viscosity.{asked40, in_units}
 use Rattle.reference.specs.Basis.{row_l, row_h, last_row_at, viscosity_of, l_at, h_at, basis_of, basis_answer_of}
 
@@ -22,12 +21,12 @@ pub record StarredBasis : Type 0 where
 
 -- Questions 1 to 3 at their limits: "y 1999: 1. y 500001: 2. (1000000001, 2000): 3.", and the numbers beside them, which are taken
 pub record Limits : Type 0 where
-  pub below_least : basis_answer_of 1999 ≡ Refused 1
-  pub least : basis_answer_of 2000 ≡ Found (basis_of 2000)
-  pub greatest : basis_answer_of 500000 ≡ Found (basis_of 500000)
-  pub above_greatest : basis_answer_of 500001 ≡ Refused 2
-  pub thickest : asked40 1000000000 ≡ at40.Within (record { thousandths = 1000000000 })
-  pub too_thick : asked40 1000000001 ≡ at40.Refused 3
+  pub below_least : basis_answer_of 1999 ≡ Err ThinAt100
+  pub least : basis_answer_of 2000 ≡ Ok (basis_of 2000)
+  pub greatest : basis_answer_of 500000 ≡ Ok (basis_of 500000)
+  pub above_greatest : basis_answer_of 500001 ≡ Err ThickAt100
+  pub thickest : asked40 1000000000 ≡ Ok (record { thousandths = 1000000000 })
+  pub too_thick : asked40 1000000001 ≡ Err ThickAt40
 
 -- The standard's formulas, L = 0.8353·Y² + 14.67·Y − 216 and H = 0.1684·Y² + 11.85·Y − 97, worked by hand at 100, 200 and 500 mm²/s: L and H in
 -- thousandths. Two quadratics that agree at three viscosities are one

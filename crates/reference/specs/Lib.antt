@@ -1,4 +1,5 @@
 -- The definitions that the contracts about viscosities and the basis cite, then what is shown of them, in the order to read them in.
+pub mod Refusal
 pub mod Viscosity
 pub mod Table1
 pub mod Basis

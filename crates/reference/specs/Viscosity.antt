@@ -1,10 +1,10 @@
 -- Document 01, 'The two viscosities' and the questions of 'Questions to a pair' that concern one viscosity.
 -- A viscosity is a whole number of thousandths of a mm²/s: y at 100 °C, u at 40 °C.
-use Rattle.std.specs.Prelude.{ℕ, ◌*◌, cond, ltb}
-use Rattle.reference.specs.declared.Asked100.{Asked100}
-use Rattle.reference.specs.declared.Asked100.TheVariants as at100
-use Rattle.reference.specs.declared.Asked40.{Asked40}
-use Rattle.reference.specs.declared.Asked40.TheVariants as at40
+use Rattle.std.specs.Prelude.{ℕ, ◌*◌, cond, ltb, Result, Ok, Err}
+use Rattle.reference.specs.declared.Kv100.{Kv100}
+use Rattle.reference.specs.declared.Kv40.{Kv40}
+use Rattle.reference.specs.declared.refusal.Refusal.{Refusal}
+use Rattle.reference.specs.declared.refusal.Refusal.TheVariants.{ThinAt100, ThickAt100, ThickAt40}
 
 -- "y from 2,000 to 500,000, u from 0 to 1,000,000,000"
 abbrev pub least100 : ℕ
@@ -20,15 +20,15 @@ abbrev pub greatest40 : ℕ
 greatest40 = 1000000000
 
 -- "Is y at least 2,000? No: 1. Is y at most 500,000? No: 2."
-abbrev pub asked100 : ℕ → Asked100
+abbrev pub asked100 : ℕ → Result Kv100 Refusal
 asked100 y =
-    cond (ltb y least100) (at100.Refused 1)
-    (cond (ltb greatest100 y) (at100.Refused 2)
-    (at100.Within (record { thousandths = y })))
+    cond (ltb y least100) (Err ThinAt100)
+    (cond (ltb greatest100 y) (Err ThickAt100)
+    (Ok (record { thousandths = y })))
 
 -- "Is u at most 1,000,000,000? No: 3." No u is below the least, which is 0.
-abbrev pub asked40 : ℕ → Asked40
-asked40 u = cond (ltb greatest40 u) (at40.Refused 3) (at40.Within (record { thousandths = u }))
+abbrev pub asked40 : ℕ → Result Kv40 Refusal
+asked40 u = cond (ltb greatest40 u) (Err ThickAt40) (Ok (record { thousandths = u }))
 
 -- "One unit here is 10^-10 mm²/s": thousandths of a mm²/s in units, of which a thousandth has 10^7
 abbrev pub units_per_thousandth : ℕ

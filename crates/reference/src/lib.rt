@@ -10,9 +10,11 @@ ghost use Rattle.reference.specs.Viscosity.{least100, greatest100, least40, grea
 ghost use Rattle.reference.specs.Table1.{table1};
 ghost use Rattle.reference.specs.Basis.{row_size, row_count, entry, last_row, whole_way, place_of, InTable, straight_line, column_of, at_place, by_quadratic, source_of, basis_value, basis_of, basis_answer_of};
 
+pub use refusal::Refusal;
 use row::find_row;
 use table1::TABLE1;
 
+mod refusal;
 mod row;
 mod table1;
 
@@ -24,30 +26,24 @@ pub struct Kv100 {
     pub thousandths: u32,
 }
 
-// What questions 1 and 2 say of a number: a viscosity within its limits, or refused by the question of that number.
-#[derive(Clone, Copy)]
-pub enum Asked100 {
-    Within(Kv100),
-    Refused(u8),
-}
-
 impl Kv100 {
     pub const LEAST: u32 = 2_000;
 
     pub const GREATEST: u32 = 500_000;
 
-    pub fn new(y: u32) -> Asked100
+    // Questions 1 and 2.
+    pub fn new(y: u32) -> Result<Self, Refusal>
         ensures value { result ≡ asked100 y }
         ensures least { Kv100.LEAST ≡ least100 }
         ensures greatest { Kv100.GREATEST ≡ greatest100 }
     {
         if y < Kv100::LEAST {
-            return Asked100::Refused(1);
+            return Err(Refusal::ThinAt100);
         }
         if Kv100::GREATEST < y {
-            return Asked100::Refused(2);
+            return Err(Refusal::ThickAt100);
         }
-        Asked100::Within(Kv100 { thousandths: y })
+        Ok(Kv100 { thousandths: y })
     }
 }
 
@@ -57,27 +53,21 @@ pub struct Kv40 {
     pub thousandths: u32,
 }
 
-// What question 3 says of a number.
-#[derive(Clone, Copy)]
-pub enum Asked40 {
-    Within(Kv40),
-    Refused(u8),
-}
-
 impl Kv40 {
     pub const LEAST: u32 = 0;
 
     pub const GREATEST: u32 = 1_000_000_000;
 
-    pub fn new(u: u32) -> Asked40
+    // Question 3.
+    pub fn new(u: u32) -> Result<Self, Refusal>
         ensures value { result ≡ asked40 u }
         ensures least { Kv40.LEAST ≡ least40 }
         ensures greatest { Kv40.GREATEST ≡ greatest40 }
     {
         if Kv40::GREATEST < u {
-            return Asked40::Refused(3);
+            return Err(Refusal::ThickAt40);
         }
-        Asked40::Within(Kv40 { thousandths: u })
+        Ok(Kv40 { thousandths: u })
     }
 }
 
@@ -247,19 +237,10 @@ pub fn basis_of(y: Kv100) -> Basis
     }
 }
 
-// The answer to the request for L and H: refused by the question of that number, or both values.
-#[derive(Clone, Copy)]
-pub enum BasisAnswer {
-    Refused(u8),
-    Found(Basis),
-}
-
-// The request for L and H alone: any y.
-pub fn answer_basis(y: u32) -> BasisAnswer
+// The request for L and H alone: any y, of which questions 1 and 2 are asked.
+pub fn answer_basis(y: u32) -> Result<Basis, Refusal>
     ensures { result ≡ basis_answer_of y }
 {
-    match Kv100::new(y) {
-        Asked100::Refused(number) => BasisAnswer::Refused(number),
-        Asked100::Within(v) => BasisAnswer::Found(basis_of(v)),
-    }
+    let v = Kv100::new(y)?;
+    Ok(basis_of(v))
 }
