@@ -10,7 +10,7 @@ use native.Mathlib.Nat.{mul-le-mul, eq-zero-or-pos}
 use borrow.Author.Tests.{le-leb, lt-leb}
 use Rattle.laws.proofs.Computed.{and_left, and_right, up_to, below}
 use Rattle.laws.proofs.Order.{by_order}
-use Rattle.reference.specs.declared.Place.{Place}
+use Rattle.reference.specs.declared.row.Place.{Place}
 use Rattle.reference.specs.Table1.{table1}
 use Rattle.reference.specs.Viscosity.{least100, greatest100, in_units}
 use Rattle.reference.specs.Basis.{entry, row_l, row_h, row_count, last_row, InTable, at_place, place_of, quadratic_l, quadratic_h, l_at, h_at}

@@ -11,7 +11,7 @@ use borrow.Author.Tests.{le-leb}
 use Rattle.laws.proofs.Computed.{up_to, below}
 use Rattle.laws.proofs.Order.{by_order}
 use Rattle.laws.proofs.Rising.{never_falls}
-use Rattle.reference.specs.declared.Place.{Place}
+use Rattle.reference.specs.declared.row.Place.{Place}
 use Rattle.reference.specs.Viscosity.{least100, in_units, units_per_thousandth}
 use Rattle.reference.specs.Basis.{row_l, row_h, row_count, last_row_at, viscosity_of, last_row, place_of, InTable, straight_line, at_place, l_at, h_at}
 use Rattle.reference.specs.StraightLines.{Stands}

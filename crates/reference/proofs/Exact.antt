@@ -5,7 +5,7 @@ use mathlib.Core.Path.{◌≡◌, ◌∙◌, ap}
 use native.Mathlib.Omega.{arith}
 use native.Mathlib.Nat.{mul_assoc, mul_comm, mul_left_comm, add-mul, mul-sub}
 use borrow.Author.Tests.{le-leb}
-use Rattle.reference.specs.declared.Place.{Place}
+use Rattle.reference.specs.declared.row.Place.{Place}
 use Rattle.reference.specs.Viscosity.{in_units}
 use Rattle.reference.specs.Basis.{row_l, row_h, viscosity_of, last_row, whole_way, place_of, units_per_millionth, at_place, l_at, h_at}
 use Rattle.reference.specs.StraightLines.{Stands, weighed, NothingRounded}

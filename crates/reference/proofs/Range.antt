@@ -13,7 +13,7 @@ use borrow.Author.Tests.{le-leb, lt-leb}
 use Rattle.laws.proofs.Computed.{up_to, below}
 use Rattle.laws.proofs.Order.{by_order}
 use Rattle.laws.proofs.Powers.{mul_pow}
-use Rattle.reference.specs.declared.Place.{Place}
+use Rattle.reference.specs.declared.row.Place.{Place}
 use Rattle.reference.specs.Table1.{table1}
 use Rattle.reference.specs.Viscosity.{least100, greatest100, in_units}
 use Rattle.reference.specs.Basis.{entry, row_h, last_row_at, viscosity_of, last_row, at_place, place_of, quadratic_h, h_at}

@@ -5,7 +5,7 @@ use mathlib.Core.Logic.{⊎_elim}
 use native.Mathlib.Omega.{arith}
 use native.Mathlib.Nat.{mul-le-mul_right, add-mul, mul-add, mul_assoc, eq-zero-or-pos}
 use borrow.Author.Tests.{eq-eqb, ne_eqb}
-use Rattle.reference.specs.declared.Place.{Place}
+use Rattle.reference.specs.declared.row.Place.{Place}
 use Rattle.reference.specs.Viscosity.{in_units}
 use Rattle.reference.specs.Basis.{whole_way, units_per_millionth, straight_line, at_place}
 

@@ -1,12 +1,9 @@
 -- Document 01, 'L and H': y is a kinematic viscosity at 100 °C in thousandths of a mm²/s; L and H are in units of 10^-10 mm²/s.
-use Rattle.std.specs.Prelude.{ℕ, ◌+◌, ◌*◌, ◌-◌, ◌/◌, ◌%◌, ◌<◌, ◌≡◌, cond, ltb, leb, eqb, get_or, Result, Ok, Err}
-use Rattle.reference.specs.declared.Place.{Place}
-use Rattle.reference.specs.declared.Source.{Source}
-use Rattle.reference.specs.declared.Source.TheVariants.{Table, Quadratics}
+use Rattle.std.specs.Prelude.{ℕ, ◌+◌, ◌*◌, ◌-◌, ◌/◌, ◌%◌, ◌<◌, ◌≡◌, cond, ltb, leb, eqb, get_or, Option, None, Some, Result, Ok, Err}
+use Rattle.reference.specs.declared.row.Place.{Place}
 use Rattle.reference.specs.declared.ReferenceOil.{ReferenceOil}
 use Rattle.reference.specs.declared.ReferenceOil.TheVariants as oil
 use Rattle.reference.specs.declared.Basis.{Basis}
-use Rattle.reference.specs.declared.Kv100.{Kv100}
 use Rattle.reference.specs.declared.refusal.Refusal.{Refusal}
 use Rattle.reference.specs.Viscosity.{asked100, in_units}
 use Rattle.reference.specs.Table1.{table1}
@@ -87,9 +84,9 @@ abbrev pub basis_of : ℕ → Basis
 basis_of y = record { l = l_at y; h = h_at y }
 
 -- "The request for L and H alone takes y and asks the first two": the refusal or the values of each case of its answer
-abbrev pub basis_answered : Result Kv100 Refusal → Result Basis Refusal
+abbrev pub basis_answered : Result ℕ Refusal → Result Basis Refusal
 basis_answered (Err refusal) = Err refusal
-basis_answered (Ok v) = Ok (basis_of v.thousandths)
+basis_answered (Ok y) = Ok (basis_of y)
 
 abbrev pub basis_answer_of : ℕ → Result Basis Refusal
 basis_answer_of y = basis_answered (asked100 y)
@@ -111,9 +108,9 @@ abbrev pub by_quadratic : ReferenceOil → ℕ → ℕ
 by_quadratic oil.L y = quadratic_l y
 by_quadratic oil.H y = quadratic_h y
 
--- how L and H at y are found
-abbrev pub source_of : ℕ → Source
-source_of y = cond (leb y last_row) (Table (place_of y)) Quadratics
+-- where L and H at y are found: at a place of the table; above it at none, where the quadratics give them
+abbrev pub source_of : ℕ → Option Place
+source_of y = cond (leb y last_row) (Some (place_of y)) None
 
 abbrev pub basis_value : ReferenceOil → ℕ → ℕ
 basis_value oil.L y = l_at y

@@ -25,7 +25,7 @@ pub record Limits : Type 0 where
   pub least : basis_answer_of 2000 ≡ Ok (basis_of 2000)
   pub greatest : basis_answer_of 500000 ≡ Ok (basis_of 500000)
   pub above_greatest : basis_answer_of 500001 ≡ Err ThickAt100
-  pub thickest : asked40 1000000000 ≡ Ok (record { thousandths = 1000000000 })
+  pub thickest : asked40 1000000000 ≡ Ok 1000000000
   pub too_thick : asked40 1000000001 ≡ Err ThickAt40
 
 -- The standard's formulas, L = 0.8353·Y² + 14.67·Y − 216 and H = 0.1684·Y² + 11.85·Y − 97, worked by hand at 100, 200 and 500 mm²/s: L and H in

@@ -10,16 +10,16 @@ use Rattle.reference.specs.Basis.{row_count, viscosity_of, last_row, place_of}
 abbrev pub spacing_of : ℕ → ℕ
 spacing_of i = viscosity_of (i + 1) - viscosity_of i
 
--- what is found of y: the row, its spacing, and the share of the way to the next row
+-- what is found of y: its place, which is the row and the share of the way to the next row, and the row's spacing
 abbrev pub row_found : ℕ → FoundRow
-row_found y = record { row = (place_of y).row; spacing = spacing_of (place_of y).row; share = (place_of y).share }
+row_found y = record { place = place_of y; spacing = spacing_of (place_of y).row }
 
 -- f is the row at or below y and its spacing: y has reached that row, and not the next one, which stands the spacing above it
 pub record RowAtOrBelow (y : ℕ) (f : FoundRow) : Type 0 where
-  pub in_table : f.row < row_count
-  pub reached : viscosity_of f.row ≤ y
-  pub not_next : y < viscosity_of (f.row + 1)
-  pub next : viscosity_of (f.row + 1) ≡ viscosity_of f.row + f.spacing
+  pub in_table : f.place.row < row_count
+  pub reached : viscosity_of f.place.row ≤ y
+  pub not_next : y < viscosity_of (f.place.row + 1)
+  pub next : viscosity_of (f.place.row + 1) ≡ viscosity_of f.place.row + f.spacing
 
 pub record EveryRowFound : Type 0 where
   pub right : (y : ℕ) → least100 ≤ y → y ≤ last_row → RowAtOrBelow y (row_found y)
@@ -28,4 +28,4 @@ pub record EveryRowFound : Type 0 where
   pub up_to_30 : (y : ℕ) → 20000 ≤ y → y < 30000 → (row_found y).spacing ≡ 200
   pub up_to_70 : (y : ℕ) → 30000 ≤ y → y ≤ last_row → (row_found y).spacing ≡ 500
   -- on a row it is that row, and nothing of the way to the next one
-  pub on_row : (i : ℕ) → i < row_count → ((row_found (viscosity_of i)).row ≡ i) × ((row_found (viscosity_of i)).share ≡ 0)
+  pub on_row : (i : ℕ) → i < row_count → ((row_found (viscosity_of i)).place.row ≡ i) × ((row_found (viscosity_of i)).place.share ≡ 0)

@@ -2,7 +2,7 @@
 -- rounded." The definitions of Basis.antt measure the way from row to row in thousandths; this says what they come to in the rows' own
 -- viscosities, with no division left. proofs/Exact.antt shows it for every y of the table.
 use Rattle.std.specs.Prelude.{ℕ, ◌+◌, ◌*◌, ◌-◌, ◌<◌, ◌≤◌, ◌≡◌}
-use Rattle.reference.specs.declared.Place.{Place}
+use Rattle.reference.specs.declared.row.Place.{Place}
 use Rattle.reference.specs.Viscosity.{least100, in_units}
 use Rattle.reference.specs.Basis.{row_l, row_h, viscosity_of, last_row, whole_way, InTable, place_of, l_at, h_at}
 

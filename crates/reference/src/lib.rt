@@ -11,7 +11,9 @@ ghost use Rattle.reference.specs.Table1.{table1};
 ghost use Rattle.reference.specs.Basis.{row_size, row_count, entry, last_row, whole_way, place_of, InTable, straight_line, column_of, at_place, by_quadratic, source_of, basis_value, basis_of, basis_answer_of};
 
 pub use refusal::Refusal;
+pub use row::Place;
 use row::find_row;
+use std::marker::Model;
 use table1::TABLE1;
 
 mod refusal;
@@ -19,11 +21,27 @@ mod row;
 mod table1;
 
 // ---- the two viscosities, and the questions about one of them
+//
+// Two types and not a generic one: Kv100 is asked two questions and Kv40 one, each with a refusal of its own, so that of a common type only the number
+// would be left.
 
-// A kinematic viscosity at 100 °C, in thousandths of a mm²/s.
-#[derive(Clone, Copy)]
+// A kinematic viscosity at 100 °C within its limits, in thousandths of a mm²/s.
+#[derive(Clone, Copy, Debug, PartialEq, Eq, PartialOrd, Ord)]
 pub struct Kv100 {
     pub thousandths: u32,
+}
+
+impl Model for Kv100 {
+    ghost use Rattle.std.specs.Prelude.{ℕ, ◌≤◌};
+    ghost use Rattle.reference.specs.Viscosity.{least100, greatest100};
+
+    ghost Value = { ℕ };
+
+    ghost view = { λ y. y.thousandths };
+
+    ghost invariant = { λ y. (least100 ≤ y.thousandths) × (y.thousandths ≤ greatest100) };
+
+    ghost inverse = { λ n. record { thousandths = n } };
 }
 
 impl Kv100 {
@@ -47,10 +65,23 @@ impl Kv100 {
     }
 }
 
-// A kinematic viscosity at 40 °C, in thousandths of a mm²/s.
-#[derive(Clone, Copy)]
+// A kinematic viscosity at 40 °C within its limits, in thousandths of a mm²/s.
+#[derive(Clone, Copy, Debug, PartialEq, Eq, PartialOrd, Ord)]
 pub struct Kv40 {
     pub thousandths: u32,
+}
+
+impl Model for Kv40 {
+    ghost use Rattle.std.specs.Prelude.{ℕ, ◌≤◌};
+    ghost use Rattle.reference.specs.Viscosity.{greatest40};
+
+    ghost Value = { ℕ };
+
+    ghost view = { λ u. u.thousandths };
+
+    ghost invariant = { λ u. u.thousandths ≤ greatest40 };
+
+    ghost inverse = { λ n. record { thousandths = n } };
 }
 
 impl Kv40 {
@@ -58,7 +89,7 @@ impl Kv40 {
 
     pub const GREATEST: u32 = 1_000_000_000;
 
-    // Question 3.
+    // Question 3. No number is below the least.
     pub fn new(u: u32) -> Result<Self, Refusal>
         ensures value { result ≡ asked40 u }
         ensures least { Kv40.LEAST ≡ least40 }
@@ -80,58 +111,36 @@ const UNITS_PER_MILLIONTH: u64 = 10_000;
 pub fn in_units(thousandths: u32) -> u64
     ensures { result ≡ in_units thousandths }
 {
-    (thousandths as u64) * UNITS_PER_THOUSANDTH
+    u64::from(thousandths) * UNITS_PER_THOUSANDTH
 }
 
 // ---- how L and H at a viscosity are found
 
 // Which of the two reference oils: the one whose viscosity at 40 °C is L, or the one whose is H.
-#[derive(Clone, Copy)]
+#[derive(Clone, Copy, Debug, PartialEq, Eq)]
 pub enum ReferenceOil {
     L,
     H,
 }
 
-// Where a viscosity stands in Table 1: the row at or below it, counted from 0, and how far it is on the way from that row to the
-// next one, in thousandths of the way.
-#[derive(Clone, Copy)]
-pub struct Place {
-    pub row: usize,
-    pub share: u32,
-}
-
-// How L and H are found: at a place of Table 1, or, above its last row, by the quadratics.
-#[derive(Clone, Copy)]
-pub enum Source {
-    Table(Place),
-    Quadratics,
-}
-
 // The viscosity of the table's last row. The quadratics begin above it, and do not meet the table there.
 const LAST_ROW: u32 = 70_000;
 
-// The place of y: the row that is found, and the share of the way.
+// The place of y: the row that is found, and the share of the way. y stays a number here and in row.rt, where request #103 asks for arithmetic on it: a
+// type for a viscosity of the table would be made for this one call.
 fn locate(y: u32) -> Place
     requires { (least100 ≤ y) × (y ≤ last_row) }
     ensures { result ≡ place_of y }
 {
-    let found = find_row(y);
-    Place {
-        row: found.row,
-        share: found.share,
-    }
+    find_row(y).place
 }
 
-// The source of L and H at y. An inner function, for callers that have asked y's questions.
-pub fn source_of(y: Kv100) -> Source
-    requires { least100 ≤ y.thousandths }
-    ensures { result ≡ source_of y.thousandths }
+// Where L and H at y are found: at a place of Table 1, or, above its last row, at none: there the quadratics give them. An inner function.
+pub fn source_of(y: u32) -> Option<Place>
+    requires { least100 ≤ y }
+    ensures { result ≡ source_of y }
 {
-    let x = y.thousandths;
-    if x <= LAST_ROW {
-        return Source::Table(locate(x));
-    }
-    Source::Quadratics
+    if y <= LAST_ROW { Some(locate(y)) } else { None }
 }
 
 // ---- the value at a place of Table 1
@@ -154,15 +163,17 @@ fn column_of(oil: ReferenceOil) -> usize
 }
 
 // The straight line from a up to b, both in thousandths, at a share of the way: in units.
+#[tactic(auto, using(crate::proofs::StraightLines::straight_line_rises))]
 fn straight_line(a: u32, b: u32, share: u32) -> u64
     requires { (a ≤ b) × (share ≤ whole_way) }
     ensures { result ≡ straight_line a b share }
 {
     let rise = b - a;
-    in_units(a) + (rise as u64) * ((share as u64) * UNITS_PER_MILLIONTH)
+    in_units(a) + u64::from(rise) * (u64::from(share) * UNITS_PER_MILLIONTH)
 }
 
 // A reference oil's entry of a row. The source's table is that of specs/.
+#[tactic(auto, unfolding(crate::specs::Basis::entry, crate::specs::Table1::table1))]
 fn entry(oil: ReferenceOil, row: usize) -> u32
     requires { row < row_count }
     ensures table { TABLE1 ≡ table1 }
@@ -172,6 +183,7 @@ fn entry(oil: ReferenceOil, row: usize) -> u32
 }
 
 // L or H at a place of the table.
+#[tactic(auto, using(crate::proofs::Rise::entries_rise), unfolding(crate::specs::Basis::at_place))]
 fn at_place(oil: ReferenceOil, p: Place) -> u64
     requires { InTable p }
     ensures { result ≡ at_place (entry (column_of oil)) p }
@@ -186,17 +198,17 @@ fn at_place(oil: ReferenceOil, p: Place) -> u64
 // ---- the value by the quadratics
 
 // a·y² + b·y − c. The bounds of a and b are above those of both formulas, so that all fits 64 bits.
-fn quadratic(a: u64, b: u64, c: u64, y: u32) -> u64
-    requires { (a < 10000) × (b < 150000000) × (y ≤ greatest100) × (c ≤ a * (y * y) + b * y) }
+fn quadratic(a: u64, b: u64, c: u64, y: Kv100) -> u64
+    requires { (a < 10000) × (b < 150000000) × (c ≤ a * (y * y) + b * y) }
     ensures { result ≡ a * (y * y) + b * y - c }
 {
-    let x = y as u64;
+    let x = u64::from(y.thousandths);
     a * (x * x) + b * x - c
 }
 
 // L or H at a y above the table: formula 1 or formula 2.
-fn by_quadratic(oil: ReferenceOil, y: u32) -> u64
-    requires { (last_row < y) × (y ≤ greatest100) }
+fn by_quadratic(oil: ReferenceOil, y: Kv100) -> u64
+    requires { last_row < y }
     ensures { result ≡ by_quadratic oil y }
 {
     match oil {
@@ -207,33 +219,66 @@ fn by_quadratic(oil: ReferenceOil, y: u32) -> u64
 
 // ---- L and H
 
-// L or H at y, by y's source. An inner function, for callers that have asked y's questions.
-pub fn basis_value(oil: ReferenceOil, y: Kv100, source: Source) -> u64
-    requires { (least100 ≤ y.thousandths) × (y.thousandths ≤ greatest100) × (source ≡ source_of y.thousandths) }
-    ensures { result ≡ basis_value oil y.thousandths }
-{
-    match source {
-        Source::Table(place) => at_place(oil, place),
-        Source::Quadratics => by_quadratic(oil, y.thousandths),
+// A viscosity at 100 °C and where its L and H are found, which is looked for once for both.
+#[derive(Clone, Copy)]
+pub struct Located {
+    y: Kv100,
+    source: Option<Place>,
+}
+
+impl Model for Located {
+    ghost use Rattle.std.specs.Prelude.{ℕ, ◌≡◌};
+    ghost use Rattle.std.proofs.Common.{sym, ap};
+    ghost use Rattle.reference.specs.Basis.{source_of};
+
+    ghost Value = { ℕ };
+
+    ghost view = { λ a. a.y };
+
+    ghost invariant = { λ a. a.source ≡ source_of a.y };
+
+    ghost inverse = { λ y. record { y = y; source = source_of y } };
+
+    ghost inverse_ok = { λ a h. ap (λ s. record { y = a.y; source = s }) (sym h) };
+}
+
+impl Located {
+    pub fn new(y: Kv100) -> Self
+        ensures { result ≡ y }
+    {
+        Located {
+            y,
+            source: source_of(y.thousandths),
+        }
+    }
+
+    // L or H.
+    #[tactic(auto, using(crate::proofs::Sources::value_at_place, crate::proofs::Sources::value_above))]
+    pub fn value(self, oil: ReferenceOil) -> u64
+        ensures { result ≡ basis_value oil self }
+    {
+        match self.source {
+            Some(place) => at_place(oil, place),
+            None => by_quadratic(oil, self.y),
+        }
     }
 }
 
 // L and H in units of 10^-10 mm²/s.
-#[derive(Clone, Copy)]
+#[derive(Clone, Copy, Debug, PartialEq, Eq)]
 pub struct Basis {
     pub l: u64,
     pub h: u64,
 }
 
-// L and H at y. An inner function, for callers that have asked y's questions.
+// L and H at y.
 pub fn basis_of(y: Kv100) -> Basis
-    requires { (least100 ≤ y.thousandths) × (y.thousandths ≤ greatest100) }
-    ensures { result ≡ basis_of y.thousandths }
+    ensures { result ≡ basis_of y }
 {
-    let source = source_of(y);
+    let located = Located::new(y);
     Basis {
-        l: basis_value(ReferenceOil::L, y, source),
-        h: basis_value(ReferenceOil::H, y, source),
+        l: located.value(ReferenceOil::L),
+        h: located.value(ReferenceOil::H),
     }
 }
 
@@ -241,6 +286,5 @@ pub fn basis_of(y: Kv100) -> Basis
 pub fn answer_basis(y: u32) -> Result<Basis, Refusal>
     ensures { result ≡ basis_answer_of y }
 {
-    let v = Kv100::new(y)?;
-    Ok(basis_of(v))
+    Ok(basis_of(Kv100::new(y)?))
 }

@@ -10,13 +10,20 @@ ghost use Rattle.reference.specs.Viscosity.{least100};
 ghost use Rattle.reference.specs.Basis.{last_row};
 ghost use Rattle.reference.specs.Rows.{row_found};
 
-// What is found of a viscosity: the row at or below it, counted from 0; the spacing, which is the distance from that row to the next one, in
-// thousandths of a mm²/s; and how far the viscosity is on that way, its share, in thousandths of the way.
+// Where a viscosity stands in Table 1: the row at or below it, counted from 0, and its share, which is how far it is on the way from that row to the
+// next one, in thousandths of the way.
+#[derive(Clone, Copy)]
+pub struct Place {
+    pub row: usize,
+    pub share: u32,
+}
+
+// What is found of a viscosity: its place, and the spacing, which is the distance from that row to the next one, in thousandths of a mm²/s. Request #103
+// asks for the spacing; L and H need the place alone.
 #[derive(Clone, Copy)]
 pub struct FoundRow {
-    pub row: usize,
+    pub place: Place,
     pub spacing: u32,
-    pub share: u32,
 }
 
 // How many ranges there are, and where the second and the third begin.
@@ -80,8 +87,7 @@ pub fn find_row(y: u32) -> FoundRow
     let passed = RANGES - left;
     let spacing = LEAST_SPACING * (passed * passed + 1);
     FoundRow {
-        row,
+        place: Place { row, share },
         spacing,
-        share,
     }
 }
