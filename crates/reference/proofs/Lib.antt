@@ -1,5 +1,6 @@
 -- What is shown of the definitions, in the order in which one file cites another.
 pub mod Refusals
+pub mod Entries
 pub mod Asked
 pub mod Places
 pub mod Rows

@@ -1,5 +1,5 @@
 -- Document 01, 'L and H': y is a kinematic viscosity at 100 °C in thousandths of a mm²/s; L and H are in units of 10^-10 mm²/s.
-use Rattle.std.specs.Prelude.{ℕ, ◌+◌, ◌*◌, ◌-◌, ◌/◌, ◌%◌, ◌<◌, ◌≡◌, cond, ltb, leb, eqb, get_or, Option, None, Some, Result, Ok, Err}
+use Rattle.std.specs.Prelude.{ℕ, List, [], ◌∷◌, ◌+◌, ◌*◌, ◌-◌, ◌/◌, ◌%◌, ◌<◌, ◌≡◌, cond, ltb, leb, eqb, get_or, Option, None, Some, Result, Ok, Err}
 use Rattle.reference.specs.declared.row.Place.{Place}
 use Rattle.reference.specs.declared.ReferenceOil.{ReferenceOil}
 use Rattle.reference.specs.declared.ReferenceOil.TheVariants as oil
@@ -7,6 +7,11 @@ use Rattle.reference.specs.declared.Basis.{Basis}
 use Rattle.reference.specs.declared.refusal.Refusal.{Refusal}
 use Rattle.reference.specs.Viscosity.{asked100, in_units}
 use Rattle.reference.specs.Table1.{table1}
+
+-- the entries of rows of L and H, in their order
+abbrev pub entries_of : List (ℕ × ℕ) → List ℕ
+entries_of [] = []
+entries_of (row ∷ rows) = row.0 ∷ row.1 ∷ entries_of rows
 
 -- L and H of row i of Table 1, in thousandths; rows are counted from 0, and a row is two entries, L and then H
 abbrev pub row_size : ℕ

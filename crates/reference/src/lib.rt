@@ -8,7 +8,7 @@
 ghost use Rattle.std.specs.Prelude.{◌≡◌, ◌<◌, ◌≤◌, ◌+◌, ◌*◌, ◌-◌};
 ghost use Rattle.reference.specs.Viscosity.{least100, greatest100, least40, greatest40, asked100, asked40, in_units};
 ghost use Rattle.reference.specs.Table1.{table1};
-ghost use Rattle.reference.specs.Basis.{row_size, row_count, entry, last_row, whole_way, place_of, InTable, straight_line, column_of, at_place, by_quadratic, source_of, basis_value, basis_of, basis_answer_of};
+ghost use Rattle.reference.specs.Basis.{row_count, entry, entries_of, last_row, whole_way, place_of, InTable, straight_line, column_of, at_place, by_quadratic, source_of, basis_value, basis_of, basis_answer_of};
 
 pub use refusal::Refusal;
 pub use row::Place;
@@ -145,23 +145,6 @@ pub fn source_of(y: u32) -> Option<Place>
 
 // ---- the value at a place of Table 1
 
-// A row of the table is two entries, L and then H.
-const ROW_SIZE: usize = 2;
-
-const COLUMN_L: usize = 0;
-
-const COLUMN_H: usize = 1;
-
-// The entry of a row that is a reference oil's.
-fn column_of(oil: ReferenceOil) -> usize
-    ensures { (result ≡ column_of oil) × (result < row_size) }
-{
-    match oil {
-        ReferenceOil::L => COLUMN_L,
-        ReferenceOil::H => COLUMN_H,
-    }
-}
-
 // The straight line from a up to b, both in thousandths, at a share of the way: in units.
 #[tactic(auto, using(crate::proofs::StraightLines::straight_line_rises))]
 fn straight_line(a: u32, b: u32, share: u32) -> u64
@@ -176,10 +159,14 @@ fn straight_line(a: u32, b: u32, share: u32) -> u64
 #[tactic(auto, unfolding(crate::specs::Basis::entry, crate::specs::Table1::table1))]
 fn entry(oil: ReferenceOil, row: usize) -> u32
     requires { row < row_count }
-    ensures table { TABLE1 ≡ table1 }
+    ensures table { entries_of TABLE1 ≡ table1 }
     ensures value { result ≡ entry (column_of oil) row }
 {
-    TABLE1[ROW_SIZE * row + column_of(oil)]
+    let (l, h) = TABLE1[row];
+    match oil {
+        ReferenceOil::L => l,
+        ReferenceOil::H => h,
+    }
 }
 
 // L or H at a place of the table.
