@@ -56,7 +56,7 @@ bites() {
     copies=$((copies + 1))
 }
 bites 'if' 'if low { first }'
-bites 'else' 'let FoundRow { row, spacing, share } = first else { second };'
+bites 'else' 'let FoundRow { place, spacing } = first else { second };'
 bites 'match' 'match left { _ => first }'
 bites 'while' 'while low {}'
 bites 'loop' 'loop {}'
