@@ -1,7 +1,8 @@
 -- Any two right answers agree. The number and the procedure follow from the questions and from H. By B, what one answer shows at most and the other at least
 -- cannot contradict each other: the greater index is one more, and each of the two fractions is beside the half between them.
 use Prim.Native.Nat.{ℕ, ◌+◌, ◌*◌, ◌-◌, ◌≤◌, ◌<◌}
-use mathlib.Core.Path.{◌≡◌, refl, sym, ◌∙◌, subst}
+use mathlib.Core.Path.{◌≡◌, refl, sym, ap, ◌∙◌, subst}
+use Rattle.std.specs.Prelude.{Ok, Err}
 use mathlib.Core.Logic.{◌⊎◌, inl, inr}
 use native.Mathlib.Omega.{arith}
 use native.Mathlib.Nat.{le_trans, pow-le-pow_left}
@@ -14,10 +15,12 @@ use Rattle.shown_index.specs.declared.Mark.TheVariants as mark
 use Rattle.shown_index.specs.declared.ByB.{ByB}
 use Rattle.logarithm.specs.Fractions.{Q}
 use Rattle.shown_index.specs.Terms.{least_index}
-use Rattle.index.specs.declared.answer.Answer.{Answer}
-use Rattle.index.specs.declared.answer.Answer.TheVariants.{Refused, A, B}
+use Rattle.reference.specs.declared.refusal.Refusal.{Refusal}
+use Rattle.reference.specs.Refusal.{number_of_refusal, refusal_of}
+use Rattle.reference.proofs.Refusals.{numbered_refusals}
+use Rattle.index.specs.declared.answer.Index.TheVariants.{A, B}
 use Rattle.index.specs.ProcedureB.{AtLeast, AtMost, NearAt, Marked}
-use Rattle.index.specs.Answer.{RightB, RightAnswer}
+use Rattle.index.specs.Answer.{Answer, RightB, RightAnswer}
 use Rattle.index.specs.Preconditions.{Passes}
 use Rattle.index.specs.Determined.{BesideTheHalf, AgreeByB, Agree, Determined}
 use Rattle.index.proofs.Consistent.{consistent}
@@ -78,16 +81,20 @@ module _ (u y : ℕ) where
   not_both : h_at y ≤ in_units u → in_units u < h_at y → ⊥
   not_both h l = omega arith
 
+  -- a number is that of one refusal
+  same_refusal : (r s : Refusal) → number_of_refusal r ≡ number_of_refusal s → r ≡ s
+  same_refusal r s e = sym (numbered_refusals.of_refusal r) ∙ ap refusal_of e ∙ numbered_refusals.of_refusal s
+
   agree : (a b : Answer) → RightAnswer u y a → RightAnswer u y b → Agree u y a b
-  agree (Refused n) (Refused m) r s = r.number ∙ sym s.number
-  agree (A i) (A j) r s = r.case.1 ∙ sym s.case.1
-  agree (B b) (B d) r s = by_marks b d (passes u y (sym r.number)) r.case s.case
-  agree (Refused n) (A i) r s = not_some n (r.number ∙ sym s.number) r.case
-  agree (Refused n) (B b) r s = not_some n (r.number ∙ sym s.number) r.case
-  agree (A i) (Refused n) r s = not_some n (s.number ∙ sym r.number) s.case
-  agree (B b) (Refused n) r s = not_some n (s.number ∙ sym r.number) s.case
-  agree (A i) (B b) r s = not_both r.case.0 s.case.below
-  agree (B b) (A i) r s = not_both s.case.0 r.case.below
+  agree (Err n) (Err m) r s = same_refusal n m (r.number ∙ sym s.number)
+  agree (Ok (A i)) (Ok (A j)) r s = r.case.1 ∙ sym s.case.1
+  agree (Ok (B b)) (Ok (B d)) r s = by_marks b d (passes u y (sym r.number)) r.case s.case
+  agree (Err n) (Ok (A i)) r s = not_some (number_of_refusal n) (r.number ∙ sym s.number) r.case
+  agree (Err n) (Ok (B b)) r s = not_some (number_of_refusal n) (r.number ∙ sym s.number) r.case
+  agree (Ok (A i)) (Err n) r s = not_some (number_of_refusal n) (s.number ∙ sym r.number) s.case
+  agree (Ok (B b)) (Err n) r s = not_some (number_of_refusal n) (s.number ∙ sym r.number) s.case
+  agree (Ok (A i)) (Ok (B b)) r s = not_both r.case.0 s.case.below
+  agree (Ok (B b)) (Ok (A i)) r s = not_both s.case.0 r.case.below
 
 pub determined : Determined
 determined = record { agree = agree }

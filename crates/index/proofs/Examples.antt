@@ -4,11 +4,11 @@ use Rattle.reference.specs.Table1.{table1}
 use Rattle.reference.specs.Basis.{entry, at_place, l_at, h_at}
 use Rattle.reference.proofs.Examples.{starred_basis}
 use Rattle.index.specs.ProcedureA.{rounded_a, index_a}
-use Rattle.index.specs.ChosenAnswer.{answer_of}
+use Rattle.index.specs.ChosenAnswer.{index_passed, answer_of}
 use Rattle.index.specs.Examples.{StarredExamples, RefusedExamples}
 
 pub starred_examples : StarredExamples
-unfolding answer_of index_a rounded_a l_at h_at at_place entry table1
+unfolding answer_of index_passed index_a rounded_a l_at h_at at_place entry table1
 starred_examples =
     record {
       basis = starred_basis;

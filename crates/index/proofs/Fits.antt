@@ -5,15 +5,15 @@ use native.Mathlib.Omega.{arith}
 use native.Mathlib.Nat.{pow-le-pow_left, le_trans, le_of_eq}
 use lib.Pow.{pow-add}
 use lib.Signed.{mag}
+use Rattle.std.specs.Prelude.{Ok, Err}
 use Rattle.laws.specs.Bits.{half32, span32}
 use Rattle.laws.proofs.Powers.{pow_mul, exponents_le}
 use Rattle.shown_index.specs.declared.ByB.{ByB}
 use Rattle.logarithm.specs.Fractions.{Q, Q_is}
 use Rattle.shown_index.specs.Terms.{most_index}
-use Rattle.index.specs.declared.answer.Answer.{Answer}
-use Rattle.index.specs.declared.answer.Answer.TheVariants.{Refused, A, B}
+use Rattle.index.specs.declared.answer.Index.TheVariants.{A, B}
 use Rattle.index.specs.ProcedureB.{AtMost}
-use Rattle.index.specs.Answer.{index_of, lower_of, upper_of, RightB, RightAnswer}
+use Rattle.index.specs.Answer.{Answer, index_of, lower_of, upper_of, RightB, RightAnswer}
 use Rattle.index.specs.ChosenAnswer.{answer_of}
 use Rattle.index.specs.Preconditions.{Passes}
 use Rattle.index.proofs.QuestionOrder.{passes}
@@ -33,17 +33,17 @@ upper_most u y k P h a =
     le_trans (le_of_eq (pow-add 10 P (7 * Q))) (le_trans a.index (le_trans (pow-le-pow_left (omega arith) Q) (le_of_eq (sym (pow_mul 10 9 Q))))) in
     omega (arith, exponents_le 10 (P + 7 * Q) (9 * Q) (omega arith) powers)
 
-b_fits : (u y : ℕ) (b : ByB) → Passes u y → RightB u y b → Fits (B b)
+b_fits : (u y : ℕ) (b : ByB) → Passes u y → RightB u y b → Fits (Ok (B b))
 b_fits u y b q r =
     let up = upper_most u y b.index b.upper r.most (b_most u y b r) in
     let low = lower_at_most_upper u y _ _ b.lower b.upper (omega (arith, q.least)) (omega (arith, q.least, q.thicker)) (b_least u y b r) (b_most u y b r) in
     record { index = omega (arith, r.most); lower = omega (arith, low, up, Q_is); upper = omega (arith, up, Q_is) }
 
 pub right_fits : (u y : ℕ) (a : Answer) → RightAnswer u y a → Fits a
-right_fits u y (Refused n) r = record { index = omega arith; lower = omega arith; upper = omega arith }
-right_fits u y (A i) r =
+right_fits u y (Err n) r = record { index = omega arith; lower = omega arith; upper = omega arith }
+right_fits u y (Ok (A i)) r =
     record { index = rw r.case.1 (index_fits u y (passes u y (sym r.number)) r.case.0); lower = omega arith; upper = omega arith }
-right_fits u y (B b) r = b_fits u y b (passes u y (sym r.number)) r.case
+right_fits u y (Ok (B b)) r = b_fits u y b (passes u y (sym r.number)) r.case
 
 pub fits : (u y : ℕ) → Fits (answer_of u y)
 fits u y = right_fits u y (answer_of u y) (right u y)

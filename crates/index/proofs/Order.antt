@@ -4,6 +4,7 @@ use mathlib.Core.Path.{◌≡◌, refl, sym, ap, ◌∙◌, subst₂}
 use native.Mathlib.Omega.{arith}
 use native.Mathlib.Nat.{mul-le-mul_left}
 use lib.Signed.{◌≤ℤ◌}
+use Rattle.std.specs.Prelude.{Ok, Err}
 use Rattle.laws.proofs.Contradiction.{not_some}
 use Rattle.laws.proofs.Order.{by_order, quotient_le}
 use Rattle.reference.specs.Viscosity.{in_units}
@@ -14,12 +15,12 @@ use Rattle.logarithm.specs.Log2.{log2_of}
 use Rattle.logarithm.proofs.Rise.{log2_rises}
 use Rattle.shown_index.specs.declared.Mark.{Mark}
 use Rattle.shown_index.specs.declared.Mark.TheVariants as mark
-use Rattle.index.specs.declared.answer.Answer.{Answer}
-use Rattle.index.specs.declared.answer.Answer.TheVariants.{Refused, A, B}
+use Rattle.reference.specs.Refusal.{number_of_refusal}
+use Rattle.index.specs.declared.answer.Index.TheVariants.{A, B}
 use Rattle.index.specs.Questions.{refusal}
 use Rattle.index.specs.Preconditions.{Passes}
 use Rattle.index.specs.ProcedureB.{SettledAt, Marked}
-use Rattle.index.specs.Answer.{method_of_mark, index_of, RightAnswer}
+use Rattle.index.specs.Answer.{Answer, method_of_mark, index_of, RightAnswer}
 use Rattle.index.specs.Order.{MarkedNear, InOrder}
 use Rattle.logarithm.specs.Fractions.{Q_number}
 use Rattle.shown_index.specs.Terms.{least_index}
@@ -67,11 +68,11 @@ b_falls u v y h a b below =
 
 pub never_rises : (u v y : ℕ) → u ≤ v → refusal u y ≡ 0 → refusal v y ≡ 0 → index_of (answer_of v y) ≤ℤ index_of (answer_of u y)
 never_rises u v y h e f =
-    by_answer v y (λ n r p is. absurd (omega arith))
-    (λ b l v-is. by_answer u y (λ n r p is. absurd (omega arith))
+    by_answer v y (λ r k. not_some (number_of_refusal r) (sym k.number ∙ f) k.some)
+    (λ b l v-is. by_answer u y (λ r k. not_some (number_of_refusal r) (sym k.number ∙ e) k.some)
     (λ a m u_is. indices v-is u_is (pos_le (answer_by_b v y).index (answer_by_b u y).index (b_falls u v y h a b l)))
     (λ a m u_is. absurd (omega arith)))
-    (λ b l v-is. by_answer u y (λ n r p is. absurd (omega arith))
+    (λ b l v-is. by_answer u y (λ r k. not_some (number_of_refusal r) (sym k.number ∙ e) k.some)
     (λ a m u_is. indices v-is u_is (order_joins (index_most y v b.least b.most l) (pos_le least_index (answer_by_b u y).index (by_b_right u y a m).least)))
     (λ a m u_is. indices v-is u_is (index_falls y u v h)))
   where
@@ -92,18 +93,18 @@ settled_falls u v y k m p P p' P' q l a b =
 
 module _ (u v y : ℕ) (e : refusal u y ≡ 0) (f : refusal v y ≡ 0) (l : u < v) where
   right_falls : (a b : Answer) → RightAnswer u y a → RightAnswer v y b → (MarkedNear a → ⊥) → (MarkedNear b → ⊥) → index_of b ≤ℤ index_of a
-  right_falls (Refused n) b r s i j = not_some n (r.number ∙ e) r.case
-  right_falls (A x) (Refused n) r s i j = not_some n (s.number ∙ f) s.case
-  right_falls (B b) (Refused n) r s i j = not_some n (s.number ∙ f) s.case
-  right_falls (A x) (A z) r s i j = rw (r.case.1, s.case.1) (index_falls y u v (omega arith))
-  right_falls (A x) (B d) r s i j =
+  right_falls (Err n) b r s i j = not_some (number_of_refusal n) (r.number ∙ e) r.case
+  right_falls (Ok (A x)) (Err n) r s i j = not_some (number_of_refusal n) (s.number ∙ f) s.case
+  right_falls (Ok (B b)) (Err n) r s i j = not_some (number_of_refusal n) (s.number ∙ f) s.case
+  right_falls (Ok (A x)) (Ok (A z)) r s i j = rw (r.case.1, s.case.1) (index_falls y u v (omega arith))
+  right_falls (Ok (A x)) (Ok (B d)) r s i j =
       let above : h_at y ≤ in_units u = r.case.0 in
       let below : in_units v < h_at y = s.case.below in
       absurd (omega arith)
-  right_falls (B b) (A z) r s i j =
+  right_falls (Ok (B b)) (Ok (A z)) r s i j =
       let q = passes v y f in
       rw s.case.1 (order_joins (index_most y v q.least q.most s.case.0) (pos_le least_index b.index r.case.least))
-  right_falls (B b) (B d) r s i j =
+  right_falls (Ok (B b)) (Ok (B d)) r s i j =
       pos_le d.index b.index
       (settled_falls u v y b.index d.index b.lower b.upper d.lower d.upper (passes u y e) l
       (only_settled b.mark u y b.index b.lower b.upper i r.case.marked)

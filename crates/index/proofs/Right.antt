@@ -70,6 +70,6 @@ by_b_right u y a l =
 pub right : (u y : ℕ) → RightAnswer u y (answer_of u y)
 right u y =
     by_answer u y
-    (λ n e p is. subst (RightAnswer u y) (sym is) (record { number = sym e; case = p }))
+    (λ r e. subst (RightAnswer u y) (sym e.answer) (record { number = sym e.number; case = e.some }))
     (λ a l is. subst (RightAnswer u y) (sym is) (record { number = sym (none_refuses u y a); case = by_b_right u y a l }))
     (λ a h is. subst (RightAnswer u y) (sym is) (record { number = sym (none_refuses u y a); case = (h, refl) }))

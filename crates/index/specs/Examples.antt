@@ -1,10 +1,10 @@
 -- Document 01, 'Pairs and sheets to try': all starred examples, gathered into one statement about the definitions.
 -- proofs/Examples.antt shows it by computation.
-use Rattle.std.specs.Prelude.{◌*◌, ◌-◌, ◌≡◌, pos, negsuc}
+use Rattle.std.specs.Prelude.{◌*◌, ◌-◌, ◌≡◌, pos, negsuc, Ok}
 use Rattle.reference.specs.Viscosity.{in_units}
 use Rattle.reference.specs.Basis.{l_at, h_at}
 use Rattle.reference.specs.Examples.{StarredBasis}
-use Rattle.index.specs.declared.answer.Answer.TheVariants.{A}
+use Rattle.index.specs.declared.answer.Index.TheVariants.{A}
 use Rattle.index.specs.Questions.{refusal}
 use Rattle.index.specs.ChosenAnswer.{answer_of}
 
@@ -13,23 +13,23 @@ pub record StarredExamples : Type 0 where
   -- those about L and H: y 8860, 5050, 70000, 70001
   pub basis : StarredBasis
   -- "(73300, 8860): A 92."
-  pub a_92 : answer_of 73300 8860 ≡ A (pos 92)
+  pub a_92 : answer_of 73300 8860 ≡ Ok (A (pos 92))
   -- "(53470, 7080): A 87."
-  pub a_87 : answer_of 53470 7080 ≡ A (pos 87)
+  pub a_87 : answer_of 53470 7080 ≡ Ok (A (pos 87))
   -- "(28490, 5000): A 100." U is H
   pub at_h : in_units 28490 ≡ h_at 5000
-  pub a_100 : answer_of 28490 5000 ≡ A (pos 100)
+  pub a_100 : answer_of 28490 5000 ≡ Ok (A (pos 100))
   -- "(7986, 2000): exactly 0.5, A 1." 100·(L − U) is half of L − H
   pub half_exact : 200 * (l_at 2000 - in_units 7986) ≡ l_at 2000 - h_at 2000
-  pub half : answer_of 7986 2000 ≡ A (pos 1)
+  pub half : answer_of 7986 2000 ≡ Ok (A (pos 1))
   -- "(8018, 2000): −1.5, A −1." 100·(U − L) is three halves of L − H
   pub negative_half_exact : 200 * (in_units 8018 - l_at 2000) ≡ 3 * (l_at 2000 - h_at 2000)
-  pub negative_half : answer_of 8018 2000 ≡ A (negsuc 0)
+  pub negative_half : answer_of 8018 2000 ≡ Ok (A (negsuc 0))
   -- "(1000000000, 2000): A −62,499,500."
-  pub thickest : answer_of 1000000000 2000 ≡ A (negsuc 62499499)
+  pub thickest : answer_of 1000000000 2000 ≡ Ok (A (negsuc 62499499))
   -- "(6188000, 100000): A 50." It is exactly 50: L − U is half of L − H
   pub above_70_exact : 2 * (l_at 100000 - in_units 6188000) ≡ l_at 100000 - h_at 100000
-  pub above_70 : answer_of 6188000 100000 ≡ A (pos 50)
+  pub above_70 : answer_of 6188000 100000 ≡ Ok (A (pos 50))
 
 -- and those that are refused: "y 1999: 1. y 500001: 2. (1000000001, 2000): 3. (2000, 2000): 4.", with the pairs beside them that are not
 pub record RefusedExamples : Type 0 where

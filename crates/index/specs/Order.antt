@@ -2,9 +2,8 @@
 -- that this program gives, near or not. proofs/Order.antt shows both. The first is the third sentence of demand 3, with no program in it.
 use Rattle.std.specs.Prelude.{ℕ, ◌<◌, ◌≤◌, ◌≡◌, ◌≤ℤ◌}
 use Rattle.shown_index.specs.declared.Mark.TheVariants as mark
-use Rattle.index.specs.declared.answer.Answer.{Answer}
 use Rattle.index.specs.Questions.{refusal}
-use Rattle.index.specs.Answer.{method_of_mark, method_of, index_of, RightAnswer}
+use Rattle.index.specs.Answer.{Answer, method_of_mark, method_of, index_of, RightAnswer}
 use Rattle.index.specs.ChosenAnswer.{answer_of}
 
 abbrev pub MarkedNear : Answer → Type 0

@@ -1,19 +1,10 @@
 -- What the inner functions ask of their callers.
-use Rattle.std.specs.Prelude.{ℕ, ◌+◌, ◌*◌, ◌<◌, ◌≤◌, ◌≡◌, List}
+use Rattle.std.specs.Prelude.{ℕ, ◌+◌, ◌*◌, ◌<◌, ◌≤◌, ◌≡◌}
 use Rattle.reference.specs.Viscosity.{least100, greatest100, greatest40, in_units}
-use Rattle.reference.specs.Table1.{table1}
 use Rattle.reference.specs.Limits.{least_difference, most_l}
 use Rattle.reference.specs.Basis.{h_at}
 use Rattle.logarithm.specs.Scale.{scale_number, width, bound, log1000}
-use Rattle.logarithm.specs.Preconditions.{LentLogarithms}
-use Rattle.shown_index.specs.ThresholdTable.{threshold_table}
 use Rattle.index.specs.declared.procedure_b.Oil.{Oil}
-
--- what the tables hold that are lent to the functions that calculate
-pub record LentTables (rows first second thresholds : List ℕ) : Type 0 where
-  pub rows_are : rows ≡ table1
-  pub logarithms : LentLogarithms first second
-  pub thresholds_are : thresholds ≡ threshold_table
 
 -- a pair that passes questions 1 to 4
 pub record Passes (u y : ℕ) : Type 0 where

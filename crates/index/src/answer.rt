@@ -1,21 +1,26 @@
 // The answer to a pair, and what it says by its case.
-ghost use Rattle.std.specs.Prelude.{◌≡◌};
+ghost use Rattle.std.specs.Prelude.{◌≡◌, ◌<◌};
+ghost use Rattle.std.specs.Int.Signed.{mag};
+ghost use Rattle.laws.specs.Bits.{span32};
 ghost use Rattle.index.specs.Answer.{number_of, method_of, method_of_mark, index_of};
 
+use reference::Refusal;
 use shown_index::{ByB, Mark};
 
-// The answer to a pair: refused by the question of that number; by procedure A with the index; by procedure B.
-#[derive(Clone, Copy)]
-pub enum Answer {
-    Refused(u8),
+// An index with the procedure that gave it.
+#[derive(Clone, Copy, Debug, PartialEq, Eq)]
+pub enum Index {
     A(i32),
     B(ByB),
 }
 
+// The answer to a pair: its index, or refused by the first question that it fails.
+pub type Answer = Result<Index, Refusal>;
+
 // The number of an answered pair.
 pub const ANSWERED: u8 = 0;
 
-// The methods, as byte 1 of a result has them.
+// The methods. They are bytes of a result (document 01, 'A sheet': "byte 1 the method"), which C reads; in Rattle a method is a case of the answer.
 pub const METHOD_REFUSED: u8 = 0;
 
 pub const METHOD_A: u8 = 1;
@@ -24,14 +29,13 @@ pub const METHOD_B_SETTLED: u8 = 2;
 
 pub const METHOD_B_NEAR: u8 = 3;
 
-// The number of the question that refused the pair, 0 where it is answered.
+// The number of the question that refused the pair, 0 where it is answered: byte 0 of its result.
 pub fn number_of(answer: Answer) -> u8
     ensures { result ≡ number_of answer }
 {
     match answer {
-        Answer::Refused(number) => number,
-        Answer::A(_) => ANSWERED,
-        Answer::B(_) => ANSWERED,
+        Ok(_) => ANSWERED,
+        Err(refusal) => u8::from(refusal),
     }
 }
 
@@ -50,23 +54,21 @@ pub fn method_of(answer: Answer) -> u8
     ensures { result ≡ method_of answer }
 {
     match answer {
-        Answer::Refused(_) => METHOD_REFUSED,
-        Answer::A(_) => METHOD_A,
-        Answer::B(b) => {
-            let mark = b.mark;
-            method_of_mark(mark)
-        }
+        Err(_) => METHOD_REFUSED,
+        Ok(Index::A(_)) => METHOD_A,
+        Ok(Index::B(b)) => method_of_mark(b.mark),
     }
 }
 
 // The index, 0 where the pair is refused; 64 bits hold it whatever the answer is. For callers that hold an answer and no
-// record, as none here does yet.
+// record.
 pub fn index_of(answer: Answer) -> i64
-    ensures { result ≡ index_of answer }
+    ensures value { result ≡ index_of answer }
+    ensures bound { mag result < span32 }
 {
     match answer {
-        Answer::Refused(_) => 0,
-        Answer::A(index) => index as i64,
-        Answer::B(b) => b.index as i64,
+        Err(_) => 0,
+        Ok(Index::A(index)) => i64::from(index),
+        Ok(Index::B(b)) => i64::from(b.index),
     }
 }

@@ -4,27 +4,18 @@
 // (crate logarithm), give p / Q at or below N and P / Q at or above it, Q = 2^24 and P at most p + 2; which index they show is crate shown_index's
 // part.
 ghost use Rattle.std.specs.Prelude.{◌≡◌};
-ghost use Rattle.logarithm.specs.Preconditions.{LentLogarithms};
-ghost use Rattle.shown_index.specs.ThresholdTable.{threshold_table};
 ghost use Rattle.index.specs.ChosenFractions.{lower_from, upper_from, answer_by_b, FoundFractions};
 ghost use Rattle.index.specs.Preconditions.{InBounds, OilBelowH};
 
-use logarithm::{LOG_1000, LOG_TABLE_SIZE, Q, WIDTH};
-use shown_index::{ByB, THRESHOLDS_TABLE_SIZE};
+use logarithm::{LOG_1000, Q, WIDTH};
+use shown_index::{ByB, Fractions};
 
 // An oil below H: its two viscosities in thousandths of a mm²/s, and H in units of 10^-10 mm²/s.
-#[derive(Clone, Copy)]
+#[derive(Clone, Copy, Debug, PartialEq, Eq)]
 pub struct Oil {
     pub u: u32,
     pub y: u32,
     pub h: u64,
-}
-
-// The two fractions of an oil, as their numerators over Q.
-#[derive(Clone, Copy)]
-pub struct Fractions {
-    pub lower: u64,
-    pub upper: u64,
 }
 
 // p, from the logarithms of y, U and H: N rounded down, with every logarithm on the side that makes it smaller.
@@ -51,46 +42,22 @@ fn upper_numerator(ly: u64, lu: u64, lh: u64, p: u64) -> u64
 }
 
 // p and P of an oil below H.
-fn fractions_of(
-    first: &[u32; LOG_TABLE_SIZE],
-    second: &[u32; LOG_TABLE_SIZE],
-    oil: Oil,
-) -> Fractions
-    requires lent { LentLogarithms first.now second.now }
-    requires below_h { OilBelowH oil }
+fn fractions_of(oil: Oil) -> Fractions
+    requires { OilBelowH oil }
     ensures { FoundFractions oil.u oil.y result.lower result.upper }
 {
-    let ly = logarithm::log2_scaled(first, second, oil.y as u64);
-    let lu = logarithm::log2_scaled(first, second, reference::in_units(oil.u));
-    let lh = logarithm::log2_scaled(first, second, oil.h);
+    let ly = logarithm::log2_scaled(oil.y as u64);
+    let lu = logarithm::log2_scaled(reference::in_units(oil.u));
+    let lh = logarithm::log2_scaled(oil.h);
     let lower = lower_numerator(ly, lu, lh);
     let upper = upper_numerator(ly, lu, lh, lower);
     Fractions { lower, upper }
 }
 
-// Procedure B, with lent tables.
-pub fn procedure_b_with_tables(
-    first: &[u32; LOG_TABLE_SIZE],
-    second: &[u32; LOG_TABLE_SIZE],
-    thresholds: &[u32; THRESHOLDS_TABLE_SIZE],
-    oil: Oil,
-) -> ByB
-    requires lent { LentLogarithms first.now second.now }
-    requires listed { thresholds.now ≡ threshold_table }
-    requires below_h { OilBelowH oil }
-    ensures { result ≡ answer_by_b oil.u oil.y }
-{
-    let n = fractions_of(first, second, oil);
-    shown_index::index_of_fractions(first, second, thresholds, n.lower, n.upper)
-}
-
-// Procedure B for one oil: the tables are copied for it.
-pub fn procedure_b_alone(oil: Oil) -> ByB
+// Procedure B.
+pub fn procedure_b(oil: Oil) -> ByB
     requires { OilBelowH oil }
     ensures { result ≡ answer_by_b oil.u oil.y }
 {
-    let first = logarithm::first_table();
-    let second = logarithm::second_table();
-    let thresholds = shown_index::thresholds_table();
-    procedure_b_with_tables(&first, &second, &thresholds, oil)
+    shown_index::index_of_fractions(fractions_of(oil))
 }

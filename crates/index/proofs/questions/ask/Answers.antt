@@ -1,28 +1,21 @@
 -- The constructors ask questions 1 to 3, in the order of the definition.
-use mathlib.Core.Path.{sym, ◌∙◌, ap₂}
-use native.Mathlib.Omega.{arith}
-use Rattle.reference.proofs.Asked.{within100, within40}
-use Rattle.index.specs.Questions.{asked_of}
-use Rattle.index.proofs.Cases.{refused_at_100, refused_at_40}
+use mathlib.Core.Path.{sym}
+use Rattle.std.proofs.lemmas.Result.{err_from_is_err_and}
+use Rattle.index.proofs.Cases.{refused_at_100, refused_at_40, not_thicker, thicker}
 use Rattle.index.proofs.questions.ask.Goals as goal
 
-pub ask_which_is_greater-requires : goal.ask_which_is_greater-requires
-ask_which_is_greater-requires c =
-    let w = within100 c.args.y _ (sym c.in-Within.ensures.value) in
-    let v = within40 c.args.u _ (sym c.in-Within-new.ensures.value) in
-    omega (arith, w, v)
+pub returns-in_err-at100 : goal.returns-in_err-at100
+returns-in_err-at100 c =
+    let p = err_from_is_err_and c.from_residual.result c.from_residual.ensures.1 in
+    rw (p.1, p.2) (refused_at_100 c.args.u c.args.y _ (sym c.in_err-at100.ensures.value))
 
-pub returns-in-Refused : goal.returns-in-Refused
-returns-in-Refused c =
-    sym (refused_at_100 c.args.u c.args.y _ (sym c.in-Refused.ensures.value))
+pub returns-in_err-at40 : goal.returns-in_err-at40
+returns-in_err-at40 c =
+    let p = err_from_is_err_and c.from_residual-in_err-at40.result c.from_residual-in_err-at40.ensures.1 in
+    rw (p.1, p.2) (refused_at_40 c.args.u c.args.y _ _ (sym c.in_ok-at100.ensures.value) (sym c.in_err-at40.ensures.value))
 
-pub returns-in-Refused-new : goal.returns-in-Refused-new
-returns-in-Refused-new c =
-    let w = within100 c.args.y _ (sym c.in-Within.ensures.value) in
-    sym (refused_at_40 c.args.u c.args.y _ w.least w.greatest (sym c.in-Refused-new.ensures.value))
+pub returns-then-u-y : goal.returns-then-u-y
+returns-then-u-y c = not_thicker c.args.u c.args.y _ _ (sym c.in_ok-at100.ensures.value) (sym c.in_ok-at40.ensures.value) c.if-u-y.true
 
-pub returns-in-Within-new : goal.returns-in-Within-new
-returns-in-Within-new c =
-    let w = within100 c.args.y _ (sym c.in-Within.ensures.value) in
-    let v = within40 c.args.u _ (sym c.in-Within-new.ensures.value) in
-    c.ask_which_is_greater.ensures ∙ ap₂ asked_of v.same w.same
+pub returns : goal.returns
+returns c = thicker c.args.u c.args.y _ _ (sym c.in_ok-at100.ensures.value) (sym c.in_ok-at40.ensures.value) c.if-u-y.false
