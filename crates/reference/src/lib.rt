@@ -126,8 +126,7 @@ pub enum ReferenceOil {
 // The viscosity of the table's last row. The quadratics begin above it, and do not meet the table there.
 const LAST_ROW: u32 = 70_000;
 
-// The place of y: the row that is found, and the share of the way. y stays a number here and in row.rt, where request #103 asks for arithmetic on it: a
-// type for a viscosity of the table would be made for this one call.
+// The place of y: the row that is found, and the share of the way. y is a plain number here as in row.rt, which says why.
 fn locate(y: u32) -> Place
     requires { (least100 ≤ y) × (y ≤ last_row) }
     ensures { result ≡ place_of y }

@@ -55,6 +55,8 @@ const PLACES_APART: u32 = 75_000;
 
 const PLACE_BASE: u32 = 250_000;
 
+// In the functions below y is a plain number: a type for a viscosity of the table would be made for one call and read by a field at each use.
+
 // 1 if y has reached the second range, else 0: with STEP − SECOND_FROM more y is a step or more from 20.0 on, and two nowhere in the table.
 fn second_reached(y: u32) -> u32
     requires { y ≤ last_row }
