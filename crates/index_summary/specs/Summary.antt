@@ -1,18 +1,13 @@
 -- Change request #102: "Asked, it gives the lowest and highest index, the sum of indices and the count for each of A, B settled and B near". A summary of
 -- answers, made by adding them one after the other, and what it is for a summary to be right.
 use Rattle.std.specs.Prelude.{ℕ, ◌+◌, ◌-◌, ◌≡◌, ◌⊎◌, Bool, cond, ◌&&◌, List, [], ◌∷◌, eqb, ℤ, pos, negsuc, ◌+ℤ◌, ◌-ℤ◌, ◌≤ℤ◌}
+use Rattle.std.specs.Int.{int_min, int_max}
 use Rattle.std.specs.Int.Signed.{lt_z}
 use Rattle.index.specs.declared.answer.Answer.{Answer}
 use Rattle.index.specs.Answer.{index_of, method_of}
 use Rattle.index_summary.specs.declared.Summary as declared
 
 -- ---- the walk
-
-abbrev pub lesser : ℤ → ℤ → ℤ
-lesser a b = cond (lt_z a b) a b
-
-abbrev pub greater : ℤ → ℤ → ℤ
-greater a b = cond (lt_z a b) b a
 
 -- 1 where the two methods are the same
 abbrev pub one : ℕ → ℕ → ℕ
@@ -41,8 +36,8 @@ alone_of answer = record {
 
 unfoldable pub joined_of : declared.Summary → Answer → declared.Summary
 joined_of t answer = record {
-  lowest = lesser t.lowest (index_of answer);
-  highest = greater t.highest (index_of answer);
+  lowest = int_min t.lowest (index_of answer);
+  highest = int_max t.highest (index_of answer);
   sum = t.sum +ℤ index_of answer;
   a = t.a + one (method_of answer) method_a;
   settled = t.settled + one (method_of answer) method_settled;
