@@ -1,13 +1,13 @@
 /* The cost of a viscosity-gravity constant: the library beside plain C, on the same oils in one run.
 
    constant time                  ns a constant and ratios, several repetitions
-   constant run WHAT OILS TIMES   one of them alone, for an instruction count: WHAT is printed, folded, call or lent; OILS is lab40, full40, lab100
+   constant run WHAT OILS TIMES   one of them alone, for an instruction count: WHAT is printed, folded, call or many; OILS is lab40, full40, lab100
                                   or full100
 
    printed   doubles and libm as a firmware author would write it, formula 1 or 2 as printed with log10; no certificate
    folded    the same with the cheaper log, the factors of the logarithm and of the units folded into the constants
    call      vi_constant_40 or vi_constant_100, one call a constant
-   lent      one call for all oils, which copies the tables of logarithms once and lends them (bench/constant.sh writes it)
+   many      one call for all oils (bench/constant.sh writes it)
 
    All ask the same limits and store what they find for each oil. */
 #include <math.h>
@@ -120,7 +120,7 @@ static uint32_t folded_100(uint32_t v, uint32_t d, int32_t *k)
 static void pass(const char *what, const struct oils *o)
 {
     int64_t sum = 0;
-    if (strcmp(what, "lent") == 0)
+    if (strcmp(what, "many") == 0)
         (o->celsius == 40 ? constants_40 : constants_100)(o->viscosity, OILS, o->density, OILS, rows[0], ROW * OILS);
     else if (strcmp(what, "call") == 0 && o->celsius == 40)
         FOR_ALL(vi_constant_40(v, d, rows[i], ROW))
@@ -140,7 +140,7 @@ static void pass(const char *what, const struct oils *o)
 /* All four answer every oil, with the same k but beside a half, where document 001's value fits two. */
 static void compare(const struct oils *o)
 {
-    static const char *const plain[] = {"printed", "folded"}, *const ours[] = {"call", "lent"};
+    static const char *const plain[] = {"printed", "folded"}, *const ours[] = {"call", "many"};
     int differ = 0;
     for (int a = 0; a < 2; a++)
         for (int b = 0; b < 2; b++) {
@@ -172,13 +172,13 @@ static double ns_a_constant(const char *what, const struct oils *o)
 
 static void time_all(const struct oils *o)
 {
-    static const char *const kinds[] = {"printed", "folded", "call", "lent"};
-    static const char *const labels[] = {"plain C, as printed", "plain C, folded", "vi_constant_40 or _100", "with lent tables"};
+    static const char *const kinds[] = {"printed", "folded", "call", "many"};
+    static const char *const labels[] = {"plain C, as printed", "plain C, folded", "vi_constant_40 or _100", "one call for all oils"};
     static const struct {
         const char *label;
         int over, under;
     } ratios[] = {
-        {"call / plain C as printed", 2, 0}, {"call / plain C folded", 2, 1}, {"lent / plain C as printed", 3, 0}, {"lent / plain C folded", 3, 1},
+        {"call / plain C as printed", 2, 0}, {"call / plain C folded", 2, 1}, {"many / plain C as printed", 3, 0}, {"many / plain C folded", 3, 1},
     };
     double ns[4][REPEATS], ratio[4][REPEATS];
     compare(o);

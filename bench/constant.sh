@@ -4,8 +4,8 @@
 #   bench/constant.sh         ns a constant and ratios, several repetitions, at both temperatures, for a lab's oils and over the full ranges
 #   bench/constant.sh count   instructions a constant by valgrind's callgrind, which a noisy machine does not change
 #
-# Two of ours are measured: the C calls, which copy the tables of logarithms for each constant, and the calculation with tables that are copied
-# once. No C function does the second, so a crate that does is written beside a copy of those below it, outside the repository.
+# Two of ours are measured: the C calls, one for each constant, and the calculation in one call for all oils. No C function does the second, so a crate
+# that does is written beside a copy of those below it, outside the repository.
 set -eu
 root=$(cd "$(dirname "$0")/.." && pwd)
 case ${1:-time} in
@@ -19,7 +19,7 @@ trap 'rm -rf "$work"' EXIT
 
 mkdir -p "$work/crates/constant_c/src" "$work/crates/constant_c/proofs/constants"
 (cd "$root" && find crates/laws crates/logarithm crates/gravity_constant -path 'crates/*/out' -prune -o -type f -exec cp --parents -t "$work" {} +)
-printf 'laws:\nlogarithm: laws\ngravity_constant: laws logarithm\nconstant_c staticlib: logarithm gravity_constant\n' >"$work/crates.txt"
+printf 'laws:\nlogarithm: laws\ngravity_constant: laws logarithm\nconstant_c staticlib: gravity_constant\n' >"$work/crates.txt"
 
 cat >"$work/crates/constant_c/src/lib.rt" <<'RATTLE'
 // Constants of many oils, for C.
@@ -27,18 +27,15 @@ cat >"$work/crates/constant_c/src/lib.rt" <<'RATTLE'
 
 ghost use Rattle.std.specs.Prelude.{◌≡◌, ◌+◌, ◌<◌, ◌≤◌, length};
 
-use gravity_constant::{Constant, ConstantAnswer, Temperature};
+use gravity_constant::{Constant, Refusal, Temperature};
 
 // The constant, or zeros where it is refused.
-fn constant_or_zeros(answer: ConstantAnswer) -> Constant {
-    match answer {
-        ConstantAnswer::Refused(_) => Constant {
-            thousandths: 0,
-            lower: 0,
-            upper: 0,
-        },
-        ConstantAnswer::Found(constant) => constant,
-    }
+fn constant_or_zeros(answer: Result<Constant, Refusal>) -> Constant {
+    answer.unwrap_or(Constant {
+        thousandths: 0,
+        lower: 0,
+        upper: 0,
+    })
 }
 
 fn put(out: &mut [i32], at: usize, x: i32)
@@ -58,10 +55,8 @@ fn put_constant(out: &mut [i32], at: usize, c: Constant)
     put(out, at + 2, c.upper);
 }
 
-// The tables are copied once and lent for all oils. Each has three places of `out`.
+// Each oil has three places of `out`.
 fn constants(t: Temperature, viscosities: &[u32], densities: &[u32], out: &mut [i32]) {
-    let first = logarithm::first_table();
-    let second = logarithm::second_table();
     let mut i: usize = 0;
     let mut at: usize = 0;
     while i < viscosities.len() {
@@ -71,13 +66,7 @@ fn constants(t: Temperature, viscosities: &[u32], densities: &[u32], out: &mut [
         if out.len() - at < 3 {
             return;
         }
-        let answer = gravity_constant::answer_with_tables(
-            &first,
-            &second,
-            t,
-            viscosities[i],
-            densities[i],
-        );
+        let answer = gravity_constant::answer_constant(t, viscosities[i], densities[i]);
         put_constant(out, at, constant_or_zeros(answer));
         at += 3;
         i += 1;
@@ -119,7 +108,7 @@ if [ "${1:-time}" = time ]; then
     exit
 fi
 for oils in lab40 full40 lab100 full100; do
-    for what in printed folded call lent; do
+    for what in printed folded call many; do
         few=$(instructions $what $oils 1)
         many=$(instructions $what $oils 3)
         echo "$oils $what: $(((many - few) / 4000)) instructions a constant"

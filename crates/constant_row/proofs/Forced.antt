@@ -6,16 +6,17 @@ use native.Mathlib.Omega.{arith}
 use lib.IntN.{ℤ, pos}
 use lib.ListN.{length}
 use Rattle.gravity_constant.specs.declared.questions.Temperature.TheVariants.{At40}
-use Rattle.gravity_constant.specs.declared.answer.ConstantAnswer.{ConstantAnswer}
-use Rattle.gravity_constant.specs.declared.answer.ConstantAnswer.TheVariants.{Refused, Found}
+use Rattle.std.specs.Prelude.{Result, Ok, Err}
+use Rattle.gravity_constant.specs.declared.questions.Refusal.{Refusal}
+use Rattle.gravity_constant.specs.declared.answer.Constant.{Constant}
 use Rattle.gravity_constant.specs.Answer.{number_of, RightConstant}
 use Rattle.gravity_constant.specs.Forced.{HasK}
 use Rattle.gravity_constant.proofs.Forced.{forced_numbers, forced_constants, forced_fractions}
 use Rattle.constant_row.specs.ConstantCall.{filled_by, ConstantCall, RowAtZero, ForcedRow}
 
-at_zero : (lent : List ℤ) (a : ConstantAnswer) → RightConstant At40 6500 8600 a → HasK a (pos 844) → (number_of a ≡ 0) × RowAtZero (filled_by lent a)
-at_zero lent (Refused n) r k = absurd k
-at_zero lent (Found c) r k = let f = forced_fractions.at_zero c r in (refl, (k, f.0, f.1))
+at_zero : (lent : List ℤ) (a : Result Constant Refusal) → RightConstant At40 6500 8600 a → HasK a (pos 844) → (number_of a ≡ 0) × RowAtZero (filled_by lent a)
+at_zero lent (Err y) r k = absurd k
+at_zero lent (Ok c) r k = let f = forced_fractions.at_zero c r in (refl, (k, f.0, f.1))
 
 pub forced_row : ForcedRow
 forced_row = record { filled = at_6500; refused = at_5500 }

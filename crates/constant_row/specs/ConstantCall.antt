@@ -1,13 +1,12 @@
 -- Change request #101 in C, by document 01's rule for the pair call: the lent row is first asked whether it is just 3 numbers (no: 5, row untouched); then
 -- the constant's own questions, of which the first no gives its number, with the row untouched; otherwise the row holds k and the numerators of the
 -- two fractions, and 0 is answered.
-use Rattle.std.specs.Prelude.{ℕ, ◌≡◌, Bool, cond, List, [], ◌∷◌, eqb, ℤ, pos, ◌≤ℤ◌, length}
+use Rattle.std.specs.Prelude.{Result, Ok, Err, ℕ, ◌≡◌, Bool, cond, List, [], ◌∷◌, eqb, ℤ, pos, ◌≤ℤ◌, length}
 use Rattle.laws.specs.Questions.{ask}
 use Rattle.gravity_constant.specs.declared.questions.Temperature.{Temperature}
 use Rattle.gravity_constant.specs.declared.questions.Temperature.TheVariants.{At40}
 use Rattle.gravity_constant.specs.declared.answer.Constant.{Constant}
-use Rattle.gravity_constant.specs.declared.answer.ConstantAnswer.{ConstantAnswer}
-use Rattle.gravity_constant.specs.declared.answer.ConstantAnswer.TheVariants.{Refused, Found}
+use Rattle.gravity_constant.specs.declared.questions.Refusal.{Refusal}
 use Rattle.gravity_constant.specs.Answer.{number_of, RightConstant}
 use Rattle.gravity_constant.specs.Chosen.{answer_of}
 
@@ -26,9 +25,9 @@ abbrev pub row_of : Constant → List ℤ
 row_of c = c.thousandths ∷ c.lower ∷ c.upper ∷ []
 
 -- a row of three numbers after an answer
-abbrev pub filled_by : List ℤ → ConstantAnswer → List ℤ
-filled_by lent (Refused number) = lent
-filled_by lent (Found c) = row_of c
+abbrev pub filled_by : List ℤ → Result Constant Refusal → List ℤ
+filled_by lent (Err r) = lent
+filled_by lent (Ok c) = row_of c
 
 -- what the call answers
 unfoldable pub row_number : List ℤ → Temperature → ℕ → ℕ → ℕ
@@ -40,7 +39,7 @@ row_after lent t v d = cond (just3 lent) (filled_by lent (answer_of t v d)) lent
 
 -- what the call answers and leaves in a row of three numbers: the number and the row of a right answer
 pub record Filled (t : Temperature) (v d : ℕ) (lent : List ℤ) (number : ℕ) (after : List ℤ) : Type 0 where
-  pub answer : ConstantAnswer
+  pub answer : Result Constant Refusal
   pub right : RightConstant t v d answer
   pub number_is : number ≡ number_of answer
   pub row_is : after ≡ filled_by lent answer

@@ -8,7 +8,7 @@ mod trays;
 ghost use Rattle.std.specs.Prelude.{◌<◌};
 ghost use Rattle.sheet.specs.Sheet.{header_size};
 
-use gravity_constant::{ConstantAnswer, Temperature};
+use gravity_constant::Temperature;
 use index::{Answer, Mark};
 use reference::BasisAnswer;
 use sheet::SheetAnswer;
@@ -83,16 +83,16 @@ fn refused(u: u32, y: u32, number: u8) -> bool {
 // Is the constant answered, with that k in thousandths?
 fn constant_is(t: Temperature, viscosity: u32, density: u32, k: i32) -> bool {
     match gravity_constant::answer_constant(t, viscosity, density) {
-        ConstantAnswer::Found(c) => c.thousandths == k,
-        ConstantAnswer::Refused(_) => false,
+        Ok(c) => c.thousandths == k,
+        Err(_) => false,
     }
 }
 
 // Is the constant refused by that number?
 fn constant_refused(t: Temperature, viscosity: u32, density: u32, number: u8) -> bool {
     match gravity_constant::answer_constant(t, viscosity, density) {
-        ConstantAnswer::Found(_) => false,
-        ConstantAnswer::Refused(by) => by == number,
+        Ok(_) => false,
+        Err(refusal) => u8::from(refusal) == number,
     }
 }
 

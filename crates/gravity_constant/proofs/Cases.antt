@@ -1,30 +1,28 @@
 -- The answer and what the questions say, case by case.
-use Prim.Native.Nat.{ℕ, ◌<◌, ◌+◌, ◌*◌}
-use mathlib.Core.Path.{◌≡◌, refl, sym, ◌∙◌, subst}
+use Prim.Native.Nat.{ℕ, ◌+◌, ◌*◌}
+use mathlib.Core.Path.{◌≡◌, refl, sym, ap, ◌∙◌, subst}
 use mathlib.Core.Bool.{true, false}
-use native.Mathlib.Omega.{arith}
-use borrow.Author.Tests.{ne_eqb}
 use lib.IntN.{ℤ, sub_ℕ}
 use Rattle.laws.proofs.Contradiction.{impossible}
 use Rattle.logarithm.specs.Fractions.{Q_number}
+use Rattle.std.specs.Prelude.{Result, Ok, Err}
+use Rattle.gravity_constant.specs.declared.questions.Refusal.{Refusal}
+use Rattle.gravity_constant.specs.declared.questions.Refusal.TheVariants.{ViscosityOutside, DensityOutside, DivisorNotAboveZero}
 use Rattle.gravity_constant.specs.declared.questions.Temperature.{Temperature}
-use Rattle.gravity_constant.specs.declared.questions.Viscosity.{Viscosity}
-use Rattle.gravity_constant.specs.declared.questions.Density.{Density}
 use Rattle.gravity_constant.specs.declared.questions.Oil.{Oil}
-use Rattle.gravity_constant.specs.declared.questions.Asked.TheVariants as asked
 use Rattle.gravity_constant.specs.declared.answer.Constant.{Constant}
-use Rattle.gravity_constant.specs.declared.answer.ConstantAnswer.TheVariants as answer
-use Rattle.gravity_constant.specs.Questions.{refusal, oil_of, asked_of}
+use Rattle.gravity_constant.specs.Questions.{refusal, number_of_refusal, oil_of, asked_of}
 use Rattle.gravity_constant.specs.Chosen.{apart, shift, thousandths, lower_of, count_at, constant_at, divides_at, answer_at, answer_of}
 use Rattle.gravity_constant.specs.Preconditions.{Passes, OilPasses}
 use Rattle.gravity_constant.proofs.QuestionOrder.{by_questions, none_refuses}
-use Rattle.gravity_constant.proofs.Asked.{WithinViscosity, WithinDensity}
 
 -- ---- the answer
 
-pub answer_refused : (t : Temperature) (v d n : ℕ) → refusal t v d ≡ n → 0 < n → answer_of t v d ≡ answer.Refused n
+pub answer_refused : (t : Temperature) (v d : ℕ) (r : Refusal) → refusal t v d ≡ number_of_refusal r → answer_of t v d ≡ Err r
 unfolding answer_of
-answer_refused t v d n e p = rw (e, ne_eqb n 0 (λ z. omega arith))
+answer_refused t v d ViscosityOutside e = rw e refl
+answer_refused t v d DensityOutside e = rw e refl
+answer_refused t v d DivisorNotAboveZero e = rw e refl
 
 pub answer_passed : (t : Temperature) (v d : ℕ) → Passes t v d → answer_of t v d ≡ answer_at t d (lower_of t v)
 unfolding answer_of
@@ -40,43 +38,38 @@ constant_is t d n count k lower upper c e f g = rw (e, f, g, c) refl
 -- ---- question 23
 
 module _ (t : Temperature) (d n : ℕ) where
-  pub found : divides_at t n ≡ true → divides_at t (n + apart) ≡ true → answer_at t d n ≡ answer.Found (constant_at t d n)
+  pub found : divides_at t n ≡ true → divides_at t (n + apart) ≡ true → answer_at t d n ≡ Ok (constant_at t d n)
   unfolding answer_at
   found a b = rw (a, b) refl
 
-  pub no_divisor_lower : divides_at t n ≡ false → answer_at t d n ≡ answer.Refused 23
+  pub no_divisor_lower : divides_at t n ≡ false → answer_at t d n ≡ Err DivisorNotAboveZero
   unfolding answer_at
   no_divisor_lower a = rw a refl
 
-  pub no_divisor_upper : divides_at t n ≡ true → divides_at t (n + apart) ≡ false → answer_at t d n ≡ answer.Refused 23
+  pub no_divisor_upper : divides_at t n ≡ true → divides_at t (n + apart) ≡ false → answer_at t d n ≡ Err DivisorNotAboveZero
   unfolding answer_at
   no_divisor_upper a b = rw (a, b) refl
 
 -- ---- what the questions say
 
-pub asked_refused : (t : Temperature) (v d n : ℕ) → refusal t v d ≡ n → 0 < n → asked_of t v d ≡ asked.Refused n
+pub asked_refused : (t : Temperature) (v d : ℕ) (r : Refusal) → refusal t v d ≡ number_of_refusal r → asked_of t v d ≡ Err r
 unfolding asked_of
-asked_refused t v d n e p = rw (e, ne_eqb n 0 (λ z. omega arith))
+asked_refused t v d ViscosityOutside e = rw e refl
+asked_refused t v d DensityOutside e = rw e refl
+asked_refused t v d DivisorNotAboveZero e = rw e refl
 
-pub asked_passed : (t : Temperature) (v d : ℕ) → Passes t v d → asked_of t v d ≡ asked.Passed (oil_of t v d)
+pub asked_passed : (t : Temperature) (v d : ℕ) → Passes t v d → asked_of t v d ≡ Ok (oil_of t v d)
 unfolding asked_of
 asked_passed t v d a = rw (none_refuses t v d a) refl
 
--- the oil whose viscosity and density the constructors let through
-pub both_within : (t : Temperature) (v d : ℕ) (w : Viscosity) (x : Density) → WithinViscosity t v w → WithinDensity d x
-    → asked.Passed (record { viscosity = w; density = x }) ≡ asked_of t v d
-both_within t v d w x a b =
-    rw (sym a.same, sym b.same)
-    (sym (asked_passed t v d (record { least = a.least; most = a.most; lightest = b.lightest; heaviest = b.heaviest })))
-
 -- ---- from what the questions say to the answer
 
-pub refused_answer : (t : Temperature) (v d n : ℕ) → asked_of t v d ≡ asked.Refused n → answer.Refused n ≡ answer_of t v d
-refused_answer t v d n e =
+pub refused_answer : (t : Temperature) (v d : ℕ) (r : Refusal) → asked_of t v d ≡ Err r → Err r ≡ answer_of t v d
+refused_answer t v d r e =
     by_questions t v d
-    (λ m r p. let f : asked.Refused m ≡ asked.Refused n = sym (asked_refused t v d m r p) ∙ e in
-    let g : m ≡ n = cc in
-    sym (answer_refused t v d n (r ∙ g) (omega arith)))
+    (λ q f. let g : ◌≡◌ {A = Result Oil Refusal} (Err q) (Err r) = sym (asked_refused t v d q f) ∙ e in
+    let h : q ≡ r = cc in
+    sym (answer_refused t v d r (f ∙ ap number_of_refusal h)))
     (λ a. let f = asked_passed t v d a in impossible cc)
 
 -- an oil that the questions let through is the oil that was asked about
@@ -84,10 +77,10 @@ pub record Same (t : Temperature) (v d : ℕ) (oil : Oil) : Type 0 where
   pub passes : OilPasses oil
   pub answer : answer_of oil.viscosity.temperature oil.viscosity.thousandths oil.density.tenthousandths ≡ answer_of t v d
 
-pub passed_oil : (t : Temperature) (v d : ℕ) (oil : Oil) → asked_of t v d ≡ asked.Passed oil → Same t v d oil
+pub passed_oil : (t : Temperature) (v d : ℕ) (oil : Oil) → asked_of t v d ≡ Ok oil → Same t v d oil
 passed_oil t v d oil e =
     by_questions t v d
-    (λ n r p. let f = asked_refused t v d n r p in impossible cc)
-    (λ a. let f : asked.Passed (oil_of t v d) ≡ asked.Passed oil = sym (asked_passed t v d a) ∙ e in
+    (λ q f. let g = asked_refused t v d q f in impossible cc)
+    (λ a. let f : ◌≡◌ {A = Result Oil Refusal} (Ok (oil_of t v d)) (Ok oil) = sym (asked_passed t v d a) ∙ e in
     let g : ◌≡◌ {A = Oil} (oil_of t v d) oil = cc in
     subst (Same t v d) g (record { passes = a; answer = refl }))

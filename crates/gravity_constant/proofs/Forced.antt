@@ -19,12 +19,13 @@ use Rattle.logarithm.specs.Fractions.{Q, Q_is, Q_number}
 use Rattle.logarithm.proofs.Log2.{enclosed}
 use Rattle.logarithm.proofs.Constants.{ten}
 use Rattle.logarithm.proofs.FromLogarithms.{logs_le, one_above, one_below}
+use Rattle.std.specs.Prelude.{Result, Ok, Err}
+use Rattle.gravity_constant.specs.declared.questions.Refusal.{Refusal}
+use Rattle.gravity_constant.specs.declared.questions.Refusal.TheVariants.{ViscosityOutside, DensityOutside, DivisorNotAboveZero}
 use Rattle.gravity_constant.specs.declared.questions.Temperature.{Temperature}
 use Rattle.gravity_constant.specs.declared.questions.Temperature.TheVariants.{At40, At100}
 use Rattle.gravity_constant.specs.declared.answer.Constant.{Constant}
-use Rattle.gravity_constant.specs.declared.answer.ConstantAnswer.{ConstantAnswer}
-use Rattle.gravity_constant.specs.declared.answer.ConstantAnswer.TheVariants.{Refused, Found}
-use Rattle.gravity_constant.specs.Questions.{refusal}
+use Rattle.gravity_constant.specs.Questions.{refusal, refusal_of, number_of_refusal}
 use Rattle.gravity_constant.specs.Formula.{density_taken, dividend_slope, divisor_slope, argument, divisor}
 use Rattle.gravity_constant.specs.Answer.{number_of, Encloses, Fits, NoDivisor, RightFound, RightConstant}
 use Rattle.gravity_constant.specs.Chosen.{digits}
@@ -62,27 +63,36 @@ no_23 t v d z r =
     (λ (l : divisor t r.upper ≤ℤ pos 0). divides t b.m m.1 (subst (λ (f : ℤ). divisor t f ≤ℤ pos 0) b.upper_is l))
     r.fails
 
-not_refused : (t : Temperature) (v d n : ℕ) → RightConstant t v d (Refused n) → refusal t v d ≡ 0 → ⊥
-not_refused t v d n r z =
+not_refused : (t : Temperature) (v d : ℕ) (r : Refusal) → RightConstant t v d (Err r) → refusal t v d ≡ 0 → ⊥
+not_refused t v d r right z =
     ⊎_elim
-    (λ (l : (0 < n) × (n ≡ refusal t v d)). not_some n (l.1 ∙ z) l.0)
-    (λ (l : (n ≡ 23) × (refusal t v d ≡ 0) × NoDivisor t v). no_23 t v d z l.2)
-    r
+    (λ (l : (0 < number_of_refusal r) × (number_of_refusal r ≡ refusal t v d)). not_some (number_of_refusal r) (l.1 ∙ z) l.0)
+    (λ (l : (number_of_refusal r ≡ 23) × (refusal t v d ≡ 0) × NoDivisor t v). no_23 t v d z l.2)
+    right
+
+-- a refusal is that of its number
+refusal_is : (r : Refusal) → r ≡ refusal_of (number_of_refusal r)
+refusal_is ViscosityOutside = refl
+refusal_is DensityOutside = refl
+refusal_is DivisorNotAboveZero = refl
 
 pub forced_numbers : ForcedNumbers
-forced_numbers = record { refused = only_refused; answered = only_answered }
+forced_numbers = record { refused = only_refused; answered = only_answered; number = only_number }
   where
-    only_refused : (t : Temperature) (v d : ℕ) (a : ConstantAnswer) → RightConstant t v d a → 0 < refusal t v d → a ≡ Refused (refusal t v d)
-    only_refused t v d (Refused n) r p =
+    only_number : (t : Temperature) (v d : ℕ) (a : Result Constant Refusal) → RightConstant t v d a → number_of a ≡ refusal t v d
+    only_number t v d (Err r) right =
         ⊎_elim
-        (λ (l : (0 < n) × (n ≡ refusal t v d)). ap Refused l.1)
-        (λ (l : (n ≡ 23) × (refusal t v d ≡ 0) × NoDivisor t v). not_some (refusal t v d) l.1 p)
-        r
-    only_refused t v d (Found c) r p = not_some (refusal t v d) r.passes p
+        (λ (l : (0 < number_of_refusal r) × (number_of_refusal r ≡ refusal t v d)). l.1)
+        (λ (l : (number_of_refusal r ≡ 23) × (refusal t v d ≡ 0) × NoDivisor t v). absurd (no_23 t v d l.1 l.2))
+        right
+    only_number t v d (Ok c) right = sym right.passes
 
-    only_answered : (t : Temperature) (v d : ℕ) (a : ConstantAnswer) → RightConstant t v d a → refusal t v d ≡ 0 → number_of a ≡ 0
-    only_answered t v d (Refused n) r z = absurd (not_refused t v d n r z)
-    only_answered t v d (Found c) r z = refl
+    only_refused : (t : Temperature) (v d : ℕ) (a : Result Constant Refusal) → RightConstant t v d a → 0 < refusal t v d → a ≡ Err (refusal_of (refusal t v d))
+    only_refused t v d (Err r) right p = ap Err (refusal_is r ∙ ap refusal_of (only_number t v d (Err r) right))
+    only_refused t v d (Ok c) right p = not_some (refusal t v d) right.passes p
+
+    only_answered : (t : Temperature) (v d : ℕ) (a : Result Constant Refusal) → RightConstant t v d a → refusal t v d ≡ 0 → number_of a ≡ 0
+    only_answered t v d a right z = only_number t v d a right ∙ z
 
 pub forced_limits : ForcedLimits
 forced_limits =
@@ -209,9 +219,9 @@ module _ (t : Temperature) (v d lo hi p q : ℕ)
       k.is
       ∙ only_one k.i k.j p q (D t decades b.n) (A t decades d) (B t b.n) r'.least r'.most (omega (arith, simp ring at great)) (omega (arith, simp ring at small))
 
-  only_k : (z : ℤ) → sub_ℕ p q ≡ z → (a : ConstantAnswer) → RightConstant t v d a → HasK a z
-  only_k z e (Refused n) r = not_refused t v d n r passed
-  only_k z e (Found c) r = k_is c r ∙ e
+  only_k : (z : ℤ) → sub_ℕ p q ≡ z → (a : Result Constant Refusal) → RightConstant t v d a → HasK a z
+  only_k z e (Err y) r = not_refused t v d y r passed
+  only_k z e (Ok c) r = k_is c r ∙ e
 
 -- ---- the oils, computed
 

@@ -1,6 +1,5 @@
 -- The laws of the constant, callees first.
 pub mod QuestionOrder
-pub mod Asked
 pub mod Cases
 pub mod Enclosure
 pub mod WholeNumbers

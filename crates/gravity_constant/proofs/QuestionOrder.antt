@@ -4,8 +4,10 @@ use mathlib.Core.Path.{◌≡◌}
 use native.Mathlib.Omega.{arith}
 use borrow.Author.Tests.{le-leb, lt-leb}
 use Rattle.laws.proofs.Order.{by_order}
+use Rattle.gravity_constant.specs.declared.questions.Refusal.{Refusal}
+use Rattle.gravity_constant.specs.declared.questions.Refusal.TheVariants.{ViscosityOutside, DensityOutside, DivisorNotAboveZero}
 use Rattle.gravity_constant.specs.declared.questions.Temperature.{Temperature}
-use Rattle.gravity_constant.specs.Questions.{least_viscosity, greatest_viscosity, least_density, greatest_density, refusal}
+use Rattle.gravity_constant.specs.Questions.{least_viscosity, greatest_viscosity, least_density, greatest_density, refusal, number_of_refusal}
 use Rattle.gravity_constant.specs.Preconditions.{Passes}
 
 module _ (t : Temperature) (v d : ℕ) where
@@ -27,13 +29,18 @@ module _ (t : Temperature) (v d : ℕ) where
       simp (le-leb (least_viscosity t) v a.least, le-leb v (greatest_viscosity t) a.most, le-leb least_density d a.lightest, le-leb d greatest_density a.heaviest)
 
 -- the questions one after the other: one of them refuses, or the oil passes
-pub by_questions : {P : Type 0} (t : Temperature) (v d : ℕ) → ((n : ℕ) → refusal t v d ≡ n → 0 < n → P) → (Passes t v d → P) → P
+pub by_questions : {P : Type 0} (t : Temperature) (v d : ℕ) → ((r : Refusal) → refusal t v d ≡ number_of_refusal r → P) → (Passes t v d → P) → P
 by_questions t v d refused all =
-    by_order v (least_viscosity t) (λ a. refused 21 (refused_low t v d a) (omega arith))
-    (λ a. by_order (greatest_viscosity t) v (λ b. refused 21 (refused_high t v d a b) (omega arith))
-    (λ b. by_order d least_density (λ e. refused 22 (refused_light t v d a b e) (omega arith))
-    (λ e. by_order greatest_density d (λ f. refused 22 (refused_heavy t v d a b e f) (omega arith))
+    by_order v (least_viscosity t) (λ a. refused ViscosityOutside (refused_low t v d a))
+    (λ a. by_order (greatest_viscosity t) v (λ b. refused ViscosityOutside (refused_high t v d a b))
+    (λ b. by_order d least_density (λ e. refused DensityOutside (refused_light t v d a b e))
+    (λ e. by_order greatest_density d (λ f. refused DensityOutside (refused_heavy t v d a b e f))
     (λ f. all (record { least = a; most = b; lightest = e; heaviest = f })))))
 
+pub some_number : (r : Refusal) → 0 < number_of_refusal r
+some_number ViscosityOutside = omega arith
+some_number DensityOutside = omega arith
+some_number DivisorNotAboveZero = omega arith
+
 pub passes : (t : Temperature) (v d : ℕ) → refusal t v d ≡ 0 → Passes t v d
-passes t v d e = by_questions t v d (λ n r p. absurd (omega arith)) (λ a. a)
+passes t v d e = by_questions t v d (λ r f. absurd (omega (arith, some_number r))) (λ a. a)

@@ -5,13 +5,13 @@ use mathlib.Core.Bool.{true}
 use mathlib.Core.Logic.{inl}
 use native.Mathlib.Omega.{arith}
 use borrow.Author.Tests.{lt-ltb}
+use Rattle.std.specs.Prelude.{Ok}
 use Rattle.gravity_constant.specs.declared.questions.Temperature.{Temperature}
-use Rattle.gravity_constant.specs.declared.answer.ConstantAnswer.TheVariants as answer
 use Rattle.gravity_constant.specs.Formula.{divisor_slope}
 use Rattle.gravity_constant.specs.Answer.{RightFound, RightConstant}
 use Rattle.gravity_constant.specs.Chosen.{apart, no_divisor_from, lower_of, constant_at, divides_at, answer_of}
 use Rattle.gravity_constant.specs.Preconditions.{Passes}
-use Rattle.gravity_constant.proofs.QuestionOrder.{by_questions, none_refuses}
+use Rattle.gravity_constant.proofs.QuestionOrder.{by_questions, none_refuses, some_number}
 use Rattle.gravity_constant.proofs.Cases as cases
 use Rattle.gravity_constant.proofs.Enclosure.{encloses, lower_few}
 use Rattle.gravity_constant.proofs.Fits.{InFormula, in_formula, fits_lower, fits_upper}
@@ -27,7 +27,7 @@ module _ (t : Temperature) (v d : ℕ) (a : Passes t v d) where
   at_upper : InFormula t d (lower_of t v + apart)
   at_upper = in_formula t d (lower_of t v + apart) a.lightest a.heaviest (lower_few t v a.least a.most)
 
-  found : answer_of t v d ≡ answer.Found (constant_at t d (lower_of t v))
+  found : answer_of t v d ≡ Ok (constant_at t d (lower_of t v))
   found = cases.answer_passed t v d a ∙ cases.found t d (lower_of t v) (divides t d _ at_lower) (divides t d _ at_upper)
 
   found_right : RightFound t v d (constant_at t d (lower_of t v))
@@ -43,5 +43,5 @@ module _ (t : Temperature) (v d : ℕ) (a : Passes t v d) where
 pub right : (t : Temperature) (v d : ℕ) → RightConstant t v d (answer_of t v d)
 right t v d =
     by_questions t v d
-    (λ n e p. subst (RightConstant t v d) (sym (cases.answer_refused t v d n e p)) (inl (p, sym e)))
+    (λ r e. subst (RightConstant t v d) (sym (cases.answer_refused t v d r e)) (inl (some_number r, sym e)))
     (λ a. subst (RightConstant t v d) (sym (found t v d a)) (found_right t v d a))

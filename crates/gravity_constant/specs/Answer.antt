@@ -2,19 +2,18 @@
 -- negative. The two numerators are at most 64 apart; which two they are, and k where more than one fits, is left free here. At both fractions the
 -- formula lies from k − 0.51 to k + 0.51 thousandths. Refused: 21 viscosity outside its temperature's range, 22 density outside, 23 the divisor not
 -- above zero at one of the fractions; asked in that order, with the number alone as the answer." When an answer is right.
-use Rattle.std.specs.Prelude.{◌≡◌, ◌⊎◌, ℕ, ◌<◌, ℤ, pos, ◌+ℤ◌, ◌-ℤ◌, ◌*ℤ◌, ◌≤ℤ◌, ◌<ℤ◌}
+use Rattle.std.specs.Prelude.{Result, Ok, Err, ◌≡◌, ◌⊎◌, ℕ, ◌<◌, ℤ, pos, ◌+ℤ◌, ◌-ℤ◌, ◌*ℤ◌, ◌≤ℤ◌, ◌<ℤ◌}
 use Rattle.logarithm.specs.Fractions.{AtOrBelowLog, AtOrAboveLog}
+use Rattle.gravity_constant.specs.declared.questions.Refusal.{Refusal}
 use Rattle.gravity_constant.specs.declared.questions.Temperature.{Temperature}
 use Rattle.gravity_constant.specs.declared.answer.Constant.{Constant}
-use Rattle.gravity_constant.specs.declared.answer.ConstantAnswer.{ConstantAnswer}
-use Rattle.gravity_constant.specs.declared.answer.ConstantAnswer.TheVariants.{Refused, Found}
-use Rattle.gravity_constant.specs.Questions.{refusal}
+use Rattle.gravity_constant.specs.Questions.{refusal, number_of_refusal}
 use Rattle.gravity_constant.specs.Formula.{argument, dividend, divisor}
 
 -- the number of the question that refused, 0 where a constant is answered
-abbrev pub number_of : ConstantAnswer → ℕ
-number_of (Refused number) = number
-number_of (Found c) = 0
+abbrev pub number_of : Result Constant Refusal → ℕ
+number_of (Err r) = number_of_refusal r
+number_of (Ok c) = 0
 
 -- two numerators over Q that serve for v: with x the thousandths of a mm²/s that the logarithm is taken of, they enclose that of x / 1000 by whole powers,
 -- and are at most 64 apart. (`order` is no word of the request; it follows from `below` and `above`)
@@ -50,6 +49,6 @@ pub record RightFound (t : Temperature) (v d : ℕ) (c : Constant) : Type 0 wher
   pub at_lower : Fits t d c.thousandths c.lower
   pub at_upper : Fits t d c.thousandths c.upper
 
-abbrev pub RightConstant : Temperature → ℕ → ℕ → ConstantAnswer → Type 0
-RightConstant t v d (Refused number) = RightNumber t v d number
-RightConstant t v d (Found c) = RightFound t v d c
+abbrev pub RightConstant : Temperature → ℕ → ℕ → Result Constant Refusal → Type 0
+RightConstant t v d (Err r) = RightNumber t v d (number_of_refusal r)
+RightConstant t v d (Ok c) = RightFound t v d c

@@ -5,17 +5,17 @@
 -- All is whole numbers from 0 up: n = f + 3·Q stands in the place of the numerator f, so that n / Q is at or below the logarithm of the number x of
 -- thousandths, which is not below 0; and the constant is counted from −1000 thousandths, below its least value −905, so that the dividend and the
 -- divisor together stand in the place of the dividend.
-use Rattle.std.specs.Prelude.{ℕ, ◌+◌, ◌*◌, ◌-◌, ◌/◌, Bool, cond, ◌&&◌, ltb, eqb}
+use Rattle.std.specs.Prelude.{Result, Ok, Err, ℕ, ◌+◌, ◌*◌, ◌-◌, ◌/◌, Bool, cond, ◌&&◌, ltb, eqb}
 use Rattle.std.proofs.Math.IntN.{sub_ℕ}
 use Rattle.logarithm.specs.Scale.{log10}
 use Rattle.logarithm.specs.Log2.{log2_of}
 use Rattle.logarithm.specs.Fractions.{Q_number}
+use Rattle.gravity_constant.specs.declared.questions.Refusal.{Refusal}
+use Rattle.gravity_constant.specs.declared.questions.Refusal.TheVariants.{DivisorNotAboveZero}
 use Rattle.gravity_constant.specs.declared.questions.Temperature.{Temperature}
 use Rattle.gravity_constant.specs.declared.questions.Temperature.TheVariants.{At40, At100}
 use Rattle.gravity_constant.specs.declared.answer.Constant.{Constant}
-use Rattle.gravity_constant.specs.declared.answer.ConstantAnswer.{ConstantAnswer}
-use Rattle.gravity_constant.specs.declared.answer.ConstantAnswer.TheVariants.{Refused, Found}
-use Rattle.gravity_constant.specs.Questions.{refusal}
+use Rattle.gravity_constant.specs.Questions.{refusal, refusal_of}
 use Rattle.gravity_constant.specs.Formula.{density_taken, dividend_slope, divisor_start, divisor_slope, argument}
 
 -- ---- the fractions
@@ -102,9 +102,9 @@ abbrev pub divides_at : Temperature → ℕ → Bool
 divides_at t n = ltb (divisor_slope t * n) (no_divisor_from t)
 
 -- the answer from the lower n, of an oil that the limits do not refuse
-unfoldable pub answer_at : Temperature → ℕ → ℕ → ConstantAnswer
-answer_at t d n = cond (divides_at t n && divides_at t (n + apart)) (Found (constant_at t d n)) (Refused 23)
+unfoldable pub answer_at : Temperature → ℕ → ℕ → Result Constant Refusal
+answer_at t d n = cond (divides_at t n && divides_at t (n + apart)) (Ok (constant_at t d n)) (Err DivisorNotAboveZero)
 
 -- the answer
-unfoldable pub answer_of : Temperature → ℕ → ℕ → ConstantAnswer
-answer_of t v d = cond (eqb (refusal t v d) 0) (answer_at t d (lower_of t v)) (Refused (refusal t v d))
+unfoldable pub answer_of : Temperature → ℕ → ℕ → Result Constant Refusal
+answer_of t v d = cond (eqb (refusal t v d) 0) (answer_at t d (lower_of t v)) (Err (refusal_of (refusal t v d)))

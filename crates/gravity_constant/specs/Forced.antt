@@ -1,19 +1,19 @@
 -- What #101's words force, from `refusal` and `RightConstant` alone, with no program in it: a program that answers otherwise is refuted, whatever proof is
 -- offered for it. proofs/Forced.antt shows it, and proofs/LeftFree.antt what is left free.
-use Rattle.std.specs.Prelude.{ℕ, ◌<◌, ◌≡◌, ℤ, pos, negsuc, ◌+ℤ◌, ◌≤ℤ◌}
+use Rattle.std.specs.Prelude.{Result, Ok, Err, ℕ, ◌<◌, ◌≡◌, ℤ, pos, negsuc, ◌+ℤ◌, ◌≤ℤ◌}
+use Rattle.gravity_constant.specs.declared.questions.Refusal.{Refusal}
 use Rattle.gravity_constant.specs.declared.questions.Temperature.{Temperature}
 use Rattle.gravity_constant.specs.declared.questions.Temperature.TheVariants.{At40, At100}
 use Rattle.gravity_constant.specs.declared.answer.Constant.{Constant}
-use Rattle.gravity_constant.specs.declared.answer.ConstantAnswer.{ConstantAnswer}
-use Rattle.gravity_constant.specs.declared.answer.ConstantAnswer.TheVariants.{Refused, Found}
-use Rattle.gravity_constant.specs.Questions.{refusal}
+use Rattle.gravity_constant.specs.Questions.{refusal, refusal_of}
 use Rattle.gravity_constant.specs.Answer.{number_of, RightFound, RightConstant}
 
 -- the number is forced: the answer to an oil that question 21 or 22 refuses is that number alone, and any other oil is answered by a constant. So no right
 -- answer is 23, whichever fractions it is asked of
 pub record ForcedNumbers : Type 0 where
-  pub refused : (t : Temperature) (v d : ℕ) (a : ConstantAnswer) → RightConstant t v d a → 0 < refusal t v d → a ≡ Refused (refusal t v d)
-  pub answered : (t : Temperature) (v d : ℕ) (a : ConstantAnswer) → RightConstant t v d a → refusal t v d ≡ 0 → number_of a ≡ 0
+  pub refused : (t : Temperature) (v d : ℕ) (a : Result Constant Refusal) → RightConstant t v d a → 0 < refusal t v d → a ≡ Err (refusal_of (refusal t v d))
+  pub answered : (t : Temperature) (v d : ℕ) (a : Result Constant Refusal) → RightConstant t v d a → refusal t v d ≡ 0 → number_of a ≡ 0
+  pub number : (t : Temperature) (v d : ℕ) (a : Result Constant Refusal) → RightConstant t v d a → number_of a ≡ refusal t v d
 
 -- the limits, on both sides of each, and the order of the questions
 pub record ForcedLimits : Type 0 where
@@ -39,29 +39,29 @@ pub record ForcedLimits : Type 0 where
   pub high_and_heavy : refusal At100 500001 15001 ≡ 21
 
 -- the answer is a constant of k thousandths
-abbrev pub HasK : ConstantAnswer → ℤ → Type 0
-HasK (Refused number) k = ⊥
-HasK (Found c) k = c.thousandths ≡ k
+abbrev pub HasK : Result Constant Refusal → ℤ → Type 0
+HasK (Err r) k = ⊥
+HasK (Ok c) k = c.thousandths ≡ k
 
 -- k is forced at these oils, of which formulas 1 and 2 can be worked by hand: no value is so close to a half that two k would fit
 pub record ForcedConstants : Type 0 where
   -- at 40 °C: V 9.5 and G 0.87, 839.596 thousandths; V 46 and G 0.875, 814.736
-  pub light : (a : ConstantAnswer) → RightConstant At40 9500 8700 a → HasK a (pos 840)
-  pub heavy : (a : ConstantAnswer) → RightConstant At40 46000 8750 a → HasK a (pos 815)
+  pub light : (a : Result Constant Refusal) → RightConstant At40 9500 8700 a → HasK a (pos 840)
+  pub heavy : (a : Result Constant Refusal) → RightConstant At40 46000 8750 a → HasK a (pos 815)
   -- the logarithm is 0: V 6.5 and G 0.86, 844.255
-  pub zero_40 : (a : ConstantAnswer) → RightConstant At40 6500 8600 a → HasK a (pos 844)
+  pub zero_40 : (a : Result Constant Refusal) → RightConstant At40 6500 8600 a → HasK a (pos 844)
   -- the greatest viscosity and the least density, −904.893, which is rounded to the nearest and not toward zero. (`negsuc n` is −(n + 1))
-  pub below_zero : (a : ConstantAnswer) → RightConstant At40 1000000000 5000 a → HasK a (negsuc 904)
+  pub below_zero : (a : Result Constant Refusal) → RightConstant At40 1000000000 5000 a → HasK a (negsuc 904)
   -- the logarithm is −3, so that the formula is (G − 0.0664 + 0.3462) / (0.94 + 0.327): G 0.875, 911.444; G 0.865, 903.552. A number of the formula that is
   -- one more or one less in its last place moves both by 0.07 at least, and one of them past a half
-  pub below_half_40 : (a : ConstantAnswer) → RightConstant At40 5501 8750 a → HasK a (pos 911)
-  pub above_half_40 : (a : ConstantAnswer) → RightConstant At40 5501 8650 a → HasK a (pos 904)
+  pub below_half_40 : (a : Result Constant Refusal) → RightConstant At40 5501 8750 a → HasK a (pos 911)
+  pub above_half_40 : (a : Result Constant Refusal) → RightConstant At40 5501 8650 a → HasK a (pos 904)
   -- at 100 °C: V′ 2.5 and G 0.87, 835.278; the logarithm is 0: V′ 1.8 and G 0.9, 880.000
-  pub light_100 : (a : ConstantAnswer) → RightConstant At100 2500 8700 a → HasK a (pos 835)
-  pub zero_100 : (a : ConstantAnswer) → RightConstant At100 1800 9000 a → HasK a (pos 880)
+  pub light_100 : (a : Result Constant Refusal) → RightConstant At100 2500 8700 a → HasK a (pos 835)
+  pub zero_100 : (a : Result Constant Refusal) → RightConstant At100 1800 9000 a → HasK a (pos 880)
   -- the logarithm is −3, (G − 0.108 + 0.3765) / (0.90 + 0.291): G 0.854, 942.485; G 0.86, 947.523
-  pub below_half_100 : (a : ConstantAnswer) → RightConstant At100 801 8540 a → HasK a (pos 942)
-  pub above_half_100 : (a : ConstantAnswer) → RightConstant At100 801 8600 a → HasK a (pos 948)
+  pub below_half_100 : (a : Result Constant Refusal) → RightConstant At100 801 8540 a → HasK a (pos 942)
+  pub above_half_100 : (a : Result Constant Refusal) → RightConstant At100 801 8600 a → HasK a (pos 948)
 
 -- the sign of the fractions is forced where the logarithm is 0 (V 6.5), and where it is −3 (V′ 0.801), which is −50,331,648 over Q
 pub record ForcedFractions : Type 0 where

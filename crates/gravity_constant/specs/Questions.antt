@@ -1,15 +1,19 @@
 -- Change request #101, limits and questions: viscosities v in thousandths of a mm²/s, densities d at 15 °C in 0.0001 g/ml.
-use Rattle.std.specs.Prelude.{ℕ, cond, ltb, leb, eqb}
+use Rattle.std.specs.Prelude.{ℕ, cond, ltb, leb, eqb, Result, Ok, Err}
 use Rattle.laws.specs.Questions.{ask}
 use Rattle.gravity_constant.specs.declared.questions.Temperature.{Temperature}
 use Rattle.gravity_constant.specs.declared.questions.Temperature.TheVariants.{At40, At100}
-use Rattle.gravity_constant.specs.declared.questions.AskedViscosity.{AskedViscosity}
-use Rattle.gravity_constant.specs.declared.questions.AskedViscosity.TheVariants as viscosity
-use Rattle.gravity_constant.specs.declared.questions.AskedDensity.{AskedDensity}
-use Rattle.gravity_constant.specs.declared.questions.AskedDensity.TheVariants as density
+use Rattle.gravity_constant.specs.declared.questions.Refusal.{Refusal}
+use Rattle.gravity_constant.specs.declared.questions.Refusal.TheVariants.{ViscosityOutside, DensityOutside, DivisorNotAboveZero}
+use Rattle.gravity_constant.specs.declared.questions.Viscosity.{Viscosity}
+use Rattle.gravity_constant.specs.declared.questions.Density.{Density}
 use Rattle.gravity_constant.specs.declared.questions.Oil.{Oil}
-use Rattle.gravity_constant.specs.declared.questions.Asked.{Asked}
-use Rattle.gravity_constant.specs.declared.questions.Asked.TheVariants.{Passed, Refused}
+
+-- "Refused: 21 viscosity outside its temperature's range, 22 density outside, 23 the divisor not above zero at one of the fractions"
+abbrev pub number_of_refusal : Refusal → ℕ
+number_of_refusal ViscosityOutside = 21
+number_of_refusal DensityOutside = 22
+number_of_refusal DivisorNotAboveZero = 23
 
 -- "at 40 °C (5,501 to 1,000,000,000) or at 100 °C (801 to 500,000)"
 abbrev pub least_viscosity : Temperature → ℕ
@@ -38,21 +42,24 @@ refusal t v d =
 
 -- ---- what the code that asks them answers
 
-abbrev pub asked_viscosity : Temperature → ℕ → AskedViscosity
+abbrev pub asked_viscosity : Temperature → ℕ → Result Viscosity Refusal
 asked_viscosity t v =
-    cond (ltb v (least_viscosity t)) (viscosity.Refused 21)
-    (cond (ltb (greatest_viscosity t) v) (viscosity.Refused 21)
-    (viscosity.Within (record { temperature = t; thousandths = v })))
+    cond (ltb v (least_viscosity t)) (Err ViscosityOutside)
+    (cond (ltb (greatest_viscosity t) v) (Err ViscosityOutside)
+    (Ok (record { temperature = t; thousandths = v })))
 
-abbrev pub asked_density : ℕ → AskedDensity
+abbrev pub asked_density : ℕ → Result Density Refusal
 asked_density d =
-    cond (ltb d least_density) (density.Refused 22)
-    (cond (ltb greatest_density d) (density.Refused 22)
-    (density.Within (record { tenthousandths = d })))
+    cond (ltb d least_density) (Err DensityOutside)
+    (cond (ltb greatest_density d) (Err DensityOutside)
+    (Ok (record { tenthousandths = d })))
 
--- the number, or the oil
+-- the refusal of a number, or the oil
+abbrev pub refusal_of : ℕ → Refusal
+refusal_of number = cond (eqb number 21) ViscosityOutside (cond (eqb number 22) DensityOutside DivisorNotAboveZero)
+
 abbrev pub oil_of : Temperature → ℕ → ℕ → Oil
 oil_of t v d = record { viscosity = record { temperature = t; thousandths = v }; density = record { tenthousandths = d } }
 
-unfoldable pub asked_of : Temperature → ℕ → ℕ → Asked
-asked_of t v d = cond (eqb (refusal t v d) 0) (Passed (oil_of t v d)) (Refused (refusal t v d))
+unfoldable pub asked_of : Temperature → ℕ → ℕ → Result Oil Refusal
+asked_of t v d = cond (eqb (refusal t v d) 0) (Ok (oil_of t v d)) (Err (refusal_of (refusal t v d)))

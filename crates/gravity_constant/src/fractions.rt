@@ -2,13 +2,12 @@
 // logarithm of the number x, and (n + APART) / Q at or above it.
 ghost use Rattle.std.specs.Prelude.{◌≡◌, ◌≤◌, ◌+◌, ◌*◌};
 ghost use Rattle.logarithm.specs.Scale.{log10};
-ghost use Rattle.logarithm.specs.Preconditions.{LentLogarithms};
 ghost use Rattle.gravity_constant.specs.Questions.{least_viscosity, greatest_viscosity};
 ghost use Rattle.gravity_constant.specs.Chosen.{apart, most_digits, most_upper, lower_from, lower_of};
 
 use crate::formula::argument_of;
 use crate::questions::Temperature;
-use logarithm::{LOG_10, LOG_TABLE_SIZE, Q};
+use logarithm::{LOG_10, Q};
 
 // How far the upper n is above the lower one: so far that the width of a logarithm and the rounding of both never reach it.
 pub const APART: u64 = 2;
@@ -27,15 +26,9 @@ fn lower_from(l: u64) -> u64
 }
 
 // The lower n of a viscosity.
-pub fn lower_of(
-    first: &[u32; LOG_TABLE_SIZE],
-    second: &[u32; LOG_TABLE_SIZE],
-    t: Temperature,
-    v: u32,
-) -> u64
-    requires lent { LentLogarithms first.now second.now }
-    requires range { (least_viscosity t ≤ v) × (v ≤ greatest_viscosity t) }
+pub fn lower_of(t: Temperature, v: u32) -> u64
+    requires { (least_viscosity t ≤ v) × (v ≤ greatest_viscosity t) }
     ensures { (result ≡ lower_of t v) × (result + apart ≤ most_upper t) }
 {
-    lower_from(logarithm::log2_scaled(first, second, argument_of(t, v)))
+    lower_from(logarithm::log2_scaled(argument_of(t, v)))
 }
