@@ -13,7 +13,7 @@ use Rattle.gravity_constant.specs.declared.questions.Oil.{Oil}
 use Rattle.gravity_constant.specs.declared.answer.Constant.{Constant}
 use Rattle.gravity_constant.specs.Questions.{refusal, number_of_refusal, oil_of, asked_of}
 use Rattle.gravity_constant.specs.Chosen.{apart, shift, thousandths, lower_of, count_at, constant_at, divides_at, answer_at, answer_of}
-use Rattle.gravity_constant.specs.Preconditions.{Passes, OilPasses}
+use Rattle.gravity_constant.specs.Preconditions.{Passes}
 use Rattle.gravity_constant.proofs.QuestionOrder.{by_questions, none_refuses}
 
 -- ---- the answer
@@ -72,15 +72,13 @@ refused_answer t v d r e =
     sym (answer_refused t v d r (f ∙ ap number_of_refusal h)))
     (λ a. let f = asked_passed t v d a in impossible cc)
 
--- an oil that the questions let through is the oil that was asked about
-pub record Same (t : Temperature) (v d : ℕ) (oil : Oil) : Type 0 where
-  pub passes : OilPasses oil
-  pub answer : answer_of oil.viscosity.temperature oil.viscosity.thousandths oil.density.tenthousandths ≡ answer_of t v d
-
-pub passed_oil : (t : Temperature) (v d : ℕ) (oil : Oil) → asked_of t v d ≡ Ok oil → Same t v d oil
-passed_oil t v d oil e =
+-- the answer to an oil that the questions let through
+pub passed_answer : (t : Temperature) (v d : ℕ) (oil : Oil) → asked_of t v d ≡ Ok oil
+    → answer_at oil.viscosity.temperature oil.density (lower_of oil.viscosity.temperature oil.viscosity.thousandths) ≡ answer_of t v d
+passed_answer t v d oil e =
     by_questions t v d
     (λ q f. let g = asked_refused t v d q f in impossible cc)
     (λ a. let f : ◌≡◌ {A = Result Oil Refusal} (Ok (oil_of t v d)) (Ok oil) = sym (asked_passed t v d a) ∙ e in
     let g : ◌≡◌ {A = Oil} (oil_of t v d) oil = cc in
-    subst (Same t v d) g (record { passes = a; answer = refl }))
+    subst (λ (o : Oil). answer_at o.viscosity.temperature o.density (lower_of o.viscosity.temperature o.viscosity.thousandths) ≡ answer_of t v d) g
+    (sym (answer_passed t v d a)))

@@ -42,6 +42,10 @@ close_here K N D h = record { least = omega (arith, h.least); most = omega (arit
 close_there : (K N D s r : ℕ) → Rounded K (N + s) (D + r) → 100000 * s + 50 * r ≤ D → 100 * (K * r) + 50 * r ≤ D → Close K N D
 close_there K N D s r h a b = record { least = omega (arith, simp ring at h.least); most = omega (arith, simp ring at h.most) }
 
+-- fewer than 20,000 counts
+few_counts : (N D : ℕ) → N ≤ most_top * Q_number → least_divisor * Q_number ≤ D → nearest_thousandth N D < most_count
+few_counts N D small large = (div-lt_iff_lt-mul {k = 2 * D} (omega arith)).1 (omega arith)
+
 -- ---- at each temperature
 
 abbrev most_slopes : ℕ
@@ -76,10 +80,9 @@ module _ (t : Temperature) (d n : ℕ) (o : InFormula t d n) where
   pub divisor_least : least_divisor * Q_number ≤ divisor_at t n
   divisor_least = omega (arith, o.divisor_above)
 
-  -- fewer than 20,000 counts
-  pub few : count_at t d n < most_count
+  few : count_at t d n < most_count
   unfolding count_at
-  few = (div-lt_iff_lt-mul {k = 2 * divisor_at t n} (omega (arith, divisor_least))).1 (omega (arith, divisor_least, o.sum_fits))
+  few = few_counts (sum_at t d n) (divisor_at t n) (omega (arith, o.sum_fits)) divisor_least
 
   here : Rounded (count_at t d n) (sum_at t d n) (divisor_at t n)
   unfolding count_at
@@ -114,11 +117,10 @@ same_count : (t : Temperature) (d n N D : ℕ) → N ≡ sum_at t d n → D ≡ 
 unfolding count_at
 same_count t d n N D e f = ap₂ nearest_thousandth e f
 
-pub counted : (t : Temperature) (d n N D K : ℕ) → K ≡ nearest_thousandth N D → N ≡ sum_at t d n → D ≡ divisor_at t n → InFormula t d n
-    → (K ≡ count_at t d n) × (K < most_count)
-counted t d n N D K k e f o =
-    let same = k ∙ same_count t d n N D e f in
-    (same, subst (λ (m : ℕ). m < most_count) (sym same) (few t d n o))
+pub counted : (t : Temperature) (d n N D K : ℕ) → K ≡ nearest_thousandth N D → N ≡ sum_at t d n → D ≡ divisor_at t n → N ≤ most_top * Q_number
+    → least_divisor * Q_number ≤ D → (K ≡ count_at t d n) × (K < most_count)
+counted t d n N D K k e f small large =
+    (k ∙ same_count t d n N D e f, subst (λ (m : ℕ). m < most_count) (sym k) (few_counts N D small large))
 
 pub small_n : (t : Temperature) (n : ℕ) → n ≤ most_upper t → n < half32
 small_n At40 n h = omega arith

@@ -14,9 +14,23 @@ use Rattle.gravity_constant.specs.declared.questions.Refusal.{Refusal}
 use Rattle.gravity_constant.specs.declared.questions.Refusal.TheVariants.{DivisorNotAboveZero}
 use Rattle.gravity_constant.specs.declared.questions.Temperature.{Temperature}
 use Rattle.gravity_constant.specs.declared.questions.Temperature.TheVariants.{At40, At100}
+use Rattle.gravity_constant.specs.declared.formula.Formula.{Formula}
 use Rattle.gravity_constant.specs.declared.answer.Constant.{Constant}
 use Rattle.gravity_constant.specs.Questions.{refusal, refusal_of}
-use Rattle.gravity_constant.specs.Formula.{density_taken, dividend_slope, divisor_start, divisor_slope, argument}
+use Rattle.gravity_constant.specs.Formula.{viscosity_taken, density_taken, dividend_slope, divisor_start, divisor_slope, argument}
+
+-- ---- the formula
+
+-- the five numbers of a temperature, as the code holds them
+abbrev pub formula_of : Temperature → Formula
+formula_of t =
+    record {
+      viscosity_taken = viscosity_taken t;
+      density_taken = density_taken t;
+      dividend_slope = dividend_slope t;
+      divisor_start = divisor_start t;
+      divisor_slope = divisor_slope t;
+    }
 
 -- ---- the fractions
 

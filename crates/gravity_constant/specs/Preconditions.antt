@@ -1,7 +1,6 @@
 -- What the inner functions ask of their callers.
 use Rattle.std.specs.Prelude.{ℕ, ◌≤◌}
 use Rattle.gravity_constant.specs.declared.questions.Temperature.{Temperature}
-use Rattle.gravity_constant.specs.declared.questions.Oil.{Oil}
 use Rattle.gravity_constant.specs.Questions.{least_viscosity, greatest_viscosity, least_density, greatest_density}
 
 -- between which numbers the limits keep what is computed, in units of Q: start + 3·slope of a line at most, and the divisor at least
@@ -17,6 +16,3 @@ pub record Passes (t : Temperature) (v d : ℕ) : Type 0 where
   pub most : v ≤ greatest_viscosity t
   pub lightest : least_density ≤ d
   pub heaviest : d ≤ greatest_density
-
-abbrev pub OilPasses : Oil → Type 0
-OilPasses oil = Passes oil.viscosity.temperature oil.viscosity.thousandths oil.density.tenthousandths

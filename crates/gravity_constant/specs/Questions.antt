@@ -52,14 +52,14 @@ abbrev pub asked_density : ℕ → Result Density Refusal
 asked_density d =
     cond (ltb d least_density) (Err DensityOutside)
     (cond (ltb greatest_density d) (Err DensityOutside)
-    (Ok (record { tenthousandths = d })))
+    (Ok d))
 
 -- the refusal of a number, or the oil
 abbrev pub refusal_of : ℕ → Refusal
 refusal_of number = cond (eqb number 21) ViscosityOutside (cond (eqb number 22) DensityOutside DivisorNotAboveZero)
 
 abbrev pub oil_of : Temperature → ℕ → ℕ → Oil
-oil_of t v d = record { viscosity = record { temperature = t; thousandths = v }; density = record { tenthousandths = d } }
+oil_of t v d = record { viscosity = record { temperature = t; thousandths = v }; density = d }
 
 unfoldable pub asked_of : Temperature → ℕ → ℕ → Result Oil Refusal
 asked_of t v d = cond (eqb (refusal t v d) 0) (Ok (oil_of t v d)) (Err (refusal_of (refusal t v d)))

@@ -2,20 +2,27 @@
 // logarithm of the number x, and (n + APART) / Q at or above it.
 ghost use Rattle.std.specs.Prelude.{◌≡◌, ◌≤◌, ◌+◌, ◌*◌};
 ghost use Rattle.logarithm.specs.Scale.{log10};
-ghost use Rattle.gravity_constant.specs.Questions.{least_viscosity, greatest_viscosity};
 ghost use Rattle.gravity_constant.specs.Chosen.{apart, most_digits, most_upper, lower_from, lower_of};
 
-use crate::formula::argument_of;
-use crate::questions::Temperature;
+use crate::formula::Fraction;
+use crate::questions::{Temperature, Viscosity};
 use logarithm::{LOG_10, Q};
 
 // How far the upper n is above the lower one: so far that the width of a logarithm and the rounding of both never reach it.
-pub const APART: u64 = 2;
+const APART: u64 = 2;
 
 // A quarter of Q, and of log2(10) rounded up, both whole: so the product of the first and a logarithm fits 64 bits.
 const QUARTER_Q: u64 = Q / 4;
 
 const QUARTER_LOG_10: u64 = (LOG_10 + 1) / 4;
+
+// The two fractions of a viscosity at that temperature, by the lower n.
+#[derive(Clone, Copy, Debug)]
+pub struct Fractions {
+    pub temperature: Temperature,
+    pub n: u64,
+    ghost within: { n + apart ≤ most_upper temperature },
+}
 
 // From the logarithm to the base 2 to the lower n: rounded down, with log2(10) rounded up.
 fn lower_from(l: u64) -> u64
@@ -25,10 +32,31 @@ fn lower_from(l: u64) -> u64
     QUARTER_Q * l / QUARTER_LOG_10
 }
 
-// The lower n of a viscosity.
-pub fn lower_of(t: Temperature, v: u32) -> u64
-    requires { (least_viscosity t ≤ v) × (v ≤ greatest_viscosity t) }
-    ensures { (result ≡ lower_of t v) × (result + apart ≤ most_upper t) }
-{
-    lower_from(logarithm::log2_scaled(argument_of(t, v)))
+impl Fractions {
+    pub fn new(viscosity: Viscosity) -> Self
+        ensures { (result.temperature ≡ viscosity.temperature) × (result.n ≡ lower_of viscosity.temperature viscosity.thousandths) }
+    {
+        Fractions {
+            temperature: viscosity.temperature,
+            n: lower_from(logarithm::log2_scaled(viscosity.argument())),
+        }
+    }
+
+    pub fn lower(self) -> Fraction
+        ensures { (result.temperature ≡ self.temperature) × (result.n ≡ self.n) }
+    {
+        Fraction {
+            temperature: self.temperature,
+            n: self.n,
+        }
+    }
+
+    pub fn upper(self) -> Fraction
+        ensures { (result.temperature ≡ self.temperature) × (result.n ≡ self.n + apart) }
+    {
+        Fraction {
+            temperature: self.temperature,
+            n: self.n + APART,
+        }
+    }
 }

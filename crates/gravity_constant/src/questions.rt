@@ -3,6 +3,8 @@ ghost use Rattle.std.specs.Prelude.{◌≡◌};
 ghost use Rattle.gravity_constant.specs.Questions.{number_of_refusal, least_viscosity, greatest_viscosity, least_density, greatest_density, asked_viscosity, asked_density, asked_of};
 ghost use Rattle.gravity_constant.specs.declared.questions.Temperature.TheVariants.{At40, At100};
 
+use std::marker::Model;
+
 // Why an oil is refused, by the number of the question that is answered no.
 #[derive(Clone, Copy, Debug, PartialEq, Eq)]
 pub enum Refusal {
@@ -36,6 +38,21 @@ pub enum Temperature {
 pub struct Viscosity {
     pub temperature: Temperature,
     pub thousandths: u32,
+}
+
+impl Model for Viscosity {
+    ghost use Rattle.std.specs.Prelude.{◌≤◌};
+    ghost use Rattle.gravity_constant.specs.Viscosity.{KinematicViscosity};
+
+    ghost Value = { KinematicViscosity };
+
+    ghost use Rattle.gravity_constant.specs.Questions.{least_viscosity, greatest_viscosity};
+
+    ghost view = { λ v. record { temperature = v.temperature; thousandths = v.thousandths } };
+
+    ghost invariant = { λ v. (least_viscosity v.temperature ≤ v.thousandths) × (v.thousandths ≤ greatest_viscosity v.temperature) };
+
+    ghost inverse = { λ v. record { temperature = v.temperature; thousandths = v.thousandths } };
 }
 
 impl Viscosity {
@@ -87,6 +104,20 @@ fn greatest_viscosity(t: Temperature) -> u32
 #[derive(Clone, Copy, Debug, PartialEq, Eq)]
 pub struct Density {
     pub tenthousandths: u32,
+}
+
+impl Model for Density {
+    ghost use Rattle.std.specs.Prelude.{ℕ, ◌≤◌};
+
+    ghost Value = { ℕ };
+
+    ghost use Rattle.gravity_constant.specs.Questions.{least_density, greatest_density};
+
+    ghost view = { λ d. d.tenthousandths };
+
+    ghost invariant = { λ d. (least_density ≤ d.tenthousandths) × (d.tenthousandths ≤ greatest_density) };
+
+    ghost inverse = { λ n. record { tenthousandths = n } };
 }
 
 impl Density {

@@ -1,11 +1,14 @@
 -- Question 23 of both fractions, then the constant.
-use mathlib.Core.Path.{sym, ap, ◌∙◌}
+use mathlib.Core.Path.{sym, ap, ap₂, ◌∙◌}
 use Rattle.std.specs.Prelude.{Ok}
+use Rattle.gravity_constant.specs.Chosen.{divides_at}
 use Rattle.gravity_constant.proofs.Cases.{found}
 use Rattle.gravity_constant.proofs.answer.answer_at.Goals as goal
 
-pub returns-then-divides_at-2 : goal.returns-then-divides_at-2
-returns-then-divides_at-2 c =
-    let a = c.args in
+pub returns-then-divides-2 : goal.returns-then-divides-2
+returns-then-divides-2 c =
+    let f = c.args.fractions in
     ap Ok c.constant_at.ensures
-    ∙ sym (found a.t a.d a.n (sym c.divides_at.ensures ∙ c.if-divides_at.true) (sym c.divides_at-then-divides_at.ensures ∙ c.if-divides_at-2.true))
+    ∙ sym (found f.temperature c.args.density f.n
+    (sym (c.divides.ensures ∙ ap₂ divides_at c.lower.ensures.0 c.lower.ensures.1) ∙ c.if-divides.true)
+    (sym (c.divides-then-divides.ensures ∙ ap₂ divides_at c.upper.ensures.0 c.upper.ensures.1) ∙ c.if-divides-2.true))
