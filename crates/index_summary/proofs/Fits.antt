@@ -9,8 +9,7 @@ use mir.Syntax.{w64}
 use mir.Val.{to_z, of_z, SFits}
 use Rattle.std.specs.Int.{int_min, int_max}
 use Rattle.laws.specs.Bits.{span32}
-use Rattle.index.specs.declared.answer.Answer.{Answer}
-use Rattle.index.specs.Answer.{index_of, method_of}
+use Rattle.index.specs.Answer.{Answer, index_of, method_of}
 use Rattle.index_summary.specs.declared.Summary.{Summary}
 use Rattle.index_summary.specs.Summary.{one, method_a, method_settled, method_near, joined_of, nothing}
 use Rattle.index_summary.specs.Preconditions.{Within}

@@ -7,8 +7,7 @@ use lib.IntN.{ℤ, ◌+ℤ◌, +ℤ_comm}
 use lib.Signed.{◌≤ℤ◌}
 use Rattle.std.proofs.lemmas.Int.{ints, clamps}
 use Rattle.std.specs.Int.{int_min, int_max}
-use Rattle.index.specs.declared.answer.Answer.{Answer}
-use Rattle.index.specs.Answer.{index_of}
+use Rattle.index.specs.Answer.{Answer, index_of}
 use Rattle.index_summary.specs.declared.Summary.{Summary}
 use Rattle.index_summary.specs.Summary.{alone_of, joined_of, is_above, is_between, sum_without, count_without, without_of}
 use Rattle.index_summary.specs.Preconditions.{most, Within, is_within}

@@ -11,8 +11,7 @@ use Rattle.std.proofs.lemmas.Int.{ints, clamps}
 use Rattle.std.specs.Int.{int_min, int_max}
 use Rattle.laws.specs.Bits.{span32}
 use Rattle.laws.proofs.Difference.{order_joins}
-use Rattle.index.specs.declared.answer.Answer.{Answer}
-use Rattle.index.specs.Answer.{index_of, method_of}
+use Rattle.index.specs.Answer.{Answer, index_of, method_of}
 use Rattle.index_summary.specs.declared.Summary.{Summary}
 use Rattle.index_summary.specs.Summary.{one, alone_of, joined_of, above_all, below_all, nothing, All, Some, sum_of, count_of, SummaryOf}
 

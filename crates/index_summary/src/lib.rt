@@ -8,8 +8,8 @@ ghost use Rattle.std.specs.Prelude.{◌≡◌};
 ghost use Rattle.index_summary.specs.Summary.{alone_of, joined_of, nothing, is_of_none};
 ghost use Rattle.index_summary.specs.Preconditions.{most, Within};
 
-use index::Answer;
 use index::answer::index_of;
+use index::{Answer, Index};
 pub use less::magnitude;
 use shown_index::Mark;
 
@@ -53,9 +53,9 @@ impl Summary {
     {
         let index = index_of(answer);
         let (a, settled, near) = match answer {
-            Answer::Refused(_) => (0, 0, 0),
-            Answer::A(_) => (1, 0, 0),
-            Answer::B(b) => match b.mark {
+            Err(_) => (0, 0, 0),
+            Ok(Index::A(_)) => (1, 0, 0),
+            Ok(Index::B(b)) => match b.mark {
                 Mark::Settled => (0, 1, 0),
                 Mark::Near => (0, 0, 1),
             },
