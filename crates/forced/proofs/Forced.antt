@@ -7,7 +7,7 @@ use lib.ListN.{length}
 use Rattle.index.specs.Answer.{RightAnswer}
 use Rattle.answer_record.specs.Bytes.{number_at, bytes_of}
 use Rattle.answer_record.specs.Record.{record_of}
-use Rattle.sheet.specs.Sheet.{stands_within, share_no_byte, sheet_refusal}
+use Rattle.sheet.specs.Sheet.{stands_within, share_no_byte, blocks_of, sheet_refusal}
 use Rattle.sheet.specs.Demand3.{RightRecords}
 use Rattle.sheet.proofs.Demand3.{read, certified, ordered}
 use Rattle.forced.specs.Forced.{PairIs, Forced, FourPairs, SheetForced}
@@ -33,7 +33,7 @@ module _ (before after : List ℕ) (records : RightRecords before after) where
       }
 
 there_is_one : (found after : List ℕ) → length found ≡ 64 → FourPairs found after
-unfolding sheet_refusal stands_within share_no_byte number_at bytes_of
+unfolding sheet_refusal blocks_of stands_within share_no_byte number_at bytes_of
 there_is_one found after e =
     record {
       accepted = rw e refl;

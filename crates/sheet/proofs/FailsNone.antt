@@ -1,48 +1,49 @@
 -- What is known of a sheet that fails no question, and question 16 in the paper's words.
 use Prim.Native.Nat.{ℕ, ◌≤◌, ◌<◌}
 use mathlib.Core.Path.{◌≡◌, refl}
-use mathlib.Core.Bool.{Bool, true, false, ◌&&◌, ◌||◌}
+use mathlib.Core.Bool.{Bool, true, false}
 use mathlib.Core.List.{List}
 use mathlib.Core.Logic.{◌⊎◌, inl, inr, ⊎_elim}
 use native.Mathlib.Omega.{arith}
 use borrow.Author.Tests.{leb-true, leb-false, eqb-true}
 use lib.ListN.{length}
 use lib.Dec.{leb, eqb}
+use Rattle.std.proofs.lemmas.Bool.{and_parts, or_cases, or_parts}
 use Rattle.laws.proofs.Order.{by_order}
-use Rattle.laws.proofs.Contradiction.{impossible}
-use Rattle.laws.specs.Questions.{ask}
-use Rattle.sheet.specs.Sheet.{header_size, most_pairs, count_of, pairs_of, results_of, total_of, end_of_pairs, end_of_results, stands_within, share_no_byte, sheet_refusal}
+use Rattle.std.specs.Prelude.{Result, Ok}
+use Rattle.sheet.specs.declared.questions.Blocks.{Blocks}
+use Rattle.sheet.specs.declared.refusal.Refusal.{Refusal}
+use Rattle.sheet.specs.declared.refusal.Refusal.TheVariants.{NoHeader, TotalNotLength, TooManyPairs, PairsOutside, ResultsOutside, BlocksShareBytes}
+use Rattle.sheet.specs.Numbers.{refusal_number}
+use Rattle.sheet.specs.Sheet.{header_size, most_pairs, count_of, pairs_of, results_of, total_of, end_of_pairs, end_of_results, stands_within, share_no_byte, named_blocks, asked, blocks_of, sheet_number_of, sheet_refusal}
 use Rattle.sheet.specs.Preconditions.{BlocksWithin}
 use Rattle.sheet.proofs.QuestionOrder.{pairs_within, results_within, blocks_apart}
 
-yes : (b : Bool) (k later : ℕ) → 0 < k → ask b k later ≡ 0 → (b ≡ true) × (later ≡ 0)
-yes true k later h e = (refl, e)
-yes false k later h e = absurd (omega arith)
+-- no refusal has the number 0
+pub some_number : (r : Refusal) → 0 < refusal_number r
+some_number NoHeader = omega arith
+some_number TotalNotLength = omega arith
+some_number TooManyPairs = omega arith
+some_number PairsOutside = omega arith
+some_number ResultsOutside = omega arith
+some_number BlocksShareBytes = omega arith
 
-both : (a b : Bool) → (a && b) ≡ true → (a ≡ true) × (b ≡ true)
-both true b e = (refl, e)
-both false b e = impossible cc
-
-either : (a b : Bool) → (a || b) ≡ true → (a ≡ true) ⊎ (b ≡ true)
-either true b e = inl refl
-either false b e = inr e
-
-neither : (a b : Bool) → (a || b) ≡ false → (a ≡ false) × (b ≡ false)
-neither true b e = impossible cc
-neither false b e = (refl, e)
+yes : (b : Bool) (r : Refusal) (next : Result Blocks Refusal) → sheet_number_of (asked b r next) ≡ 0 → (b ≡ true) × (sheet_number_of next ≡ 0)
+yes true r next e = (refl, e)
+yes false r next e = absurd (omega (arith, some_number r))
 
 -- what the answers to the questions about blocks say of them
 block_within : {begin end total : ℕ} → stands_within begin end total ≡ true → (header_size ≤ begin) × (end ≤ total)
 unfolding stands_within
-block_within e = let h = both _ _ e in (leb-true _ _ h.0, leb-true _ _ h.1)
+block_within e = let h = and_parts _ _ e in (leb-true _ _ h.0, leb-true _ _ h.1)
 
 apart : {begin end begin' end' : ℕ} → share_no_byte begin end begin' end' ≡ true → (end ≤ begin') ⊎ (end' ≤ begin)
 unfolding share_no_byte
-apart e = ⊎_elim (λ t. inl (leb-true _ _ t)) (λ t. inr (leb-true _ _ t)) (either _ _ e)
+apart e = ⊎_elim (λ t. inl (leb-true _ _ t)) (λ t. inr (leb-true _ _ t)) (or_cases _ _ e)
 
 overlap : {begin end begin' end' : ℕ} → share_no_byte begin end begin' end' ≡ false → (begin' < end) × (begin < end')
 unfolding share_no_byte
-overlap e = let h = neither _ _ e in (leb-false _ _ h.0, leb-false _ _ h.1)
+overlap e = let h = or_parts _ _ e in (leb-false _ _ h.0, leb-false _ _ h.1)
 
 -- what a sheet is that fails no question
 pub record FailsNone (s : List ℕ) : Type 0 where
@@ -51,17 +52,18 @@ pub record FailsNone (s : List ℕ) : Type 0 where
   pub few : count_of s ≤ most_pairs
   pub pairs_after : header_size ≤ pairs_of s
   pub results_after : header_size ≤ results_of s
-  pub blocks : BlocksWithin (length s) (count_of s) (pairs_of s) (results_of s)
+  pub blocks : BlocksWithin (length s) (named_blocks s)
+  pub found : blocks_of s ≡ Ok (named_blocks s)
 
 pub fails_none : (s : List ℕ) → sheet_refusal s ≡ 0 → FailsNone s
-unfolding sheet_refusal
+unfolding sheet_refusal blocks_of
 fails_none s e =
-    let a = yes (leb header_size (length s)) 11 _ (omega arith) e in
-    let b = yes (eqb (total_of s) (length s)) 12 _ (omega arith) a.1 in
-    let d = yes (leb (count_of s) most_pairs) 13 _ (omega arith) b.1 in
-    let f = yes (pairs_within s) 14 _ (omega arith) d.1 in
-    let g = yes (results_within s) 15 _ (omega arith) f.1 in
-    let h = yes (blocks_apart s) 16 0 (omega arith) g.1 in
+    let a = yes (leb header_size (length s)) NoHeader _ e in
+    let b = yes (eqb (total_of s) (length s)) TotalNotLength _ a.1 in
+    let d = yes (leb (count_of s) most_pairs) TooManyPairs _ b.1 in
+    let f = yes (pairs_within s) PairsOutside _ d.1 in
+    let g = yes (results_within s) ResultsOutside _ f.1 in
+    let h = yes (blocks_apart s) BlocksShareBytes (Ok (named_blocks s)) g.1 in
     let total : total_of s ≡ length s = eqb-true _ _ b.0 in
     let pairs : (header_size ≤ pairs_of s) × (end_of_pairs s ≤ total_of s) = block_within f.0 in
     let results : (header_size ≤ results_of s) × (end_of_results s ≤ total_of s) = block_within g.0 in
@@ -72,6 +74,7 @@ fails_none s e =
       pairs_after = pairs.0;
       results_after = results.0;
       blocks = record { pairs_end = omega arith; results_end = omega arith; apart = apart h.0 };
+      found = rw (a.0, b.0, d.0, f.0, g.0, h.0) refl;
     }
 
 -- question 16 in the paper's words: where it is answered no, some byte belongs to both blocks; where yes, none. No proof cites these two

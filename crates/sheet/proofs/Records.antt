@@ -12,9 +12,10 @@ use Rattle.answer_record.specs.Bytes.{number_size, number_at, stored}
 use Rattle.answer_record.specs.Record.{result_size, record_of}
 use Rattle.answer_record.proofs.Stores.{stored_append, number_kept, part_back}
 use Rattle.answer_record.proofs.Records.{length_record}
+use Rattle.sheet.specs.declared.questions.Blocks.{Blocks}
 use Rattle.sheet.specs.Sheet.{pair_size, y_offset, u_at, y_at, answer_at, records_of}
 use Rattle.sheet.specs.Preconditions.{BlocksWithin}
-use Rattle.sheet.proofs.Blocks.{pair_apart}
+use Rattle.sheet.proofs.Within.{pair_apart}
 
 pub length_records : (s : List ℕ) (pairs n : ℕ) → length (records_of s pairs n) ≡ result_size * n
 unfolding records_of
@@ -56,11 +57,14 @@ module _ (s : List ℕ) (pairs results i k : ℕ)
   answer_kept = ap₂ answer_of u_kept y_kept
 
 -- one turn: pair i is read as it was at entry, and its record comes after those before it
-pub next_turn : (s t t' : List ℕ) (size n pairs results i : ℕ) → BlocksWithin size n pairs results → i < n
-    → t ≡ stored s results (records_of s pairs i) → t' ≡ stored t (results + result_size * i) (record_of (answer_at t pairs i))
-    → t' ≡ stored s results (records_of s pairs (i + 1))
+pub next_turn : (s t t' : List ℕ) (size : ℕ) (blocks : Blocks) (i : ℕ) → BlocksWithin size blocks → i < blocks.count
+    → t ≡ stored s blocks.results (records_of s blocks.pairs i)
+    → t' ≡ stored t (blocks.results + result_size * i) (record_of (answer_at t blocks.pairs i))
+    → t' ≡ stored s blocks.results (records_of s blocks.pairs (i + 1))
 unfolding records_of
-next_turn s t t' size n pairs results i b h e f =
+next_turn s t t' size blocks i b h e f =
+    let pairs = blocks.pairs in
+    let results = blocks.results in
     let apart = pair_apart b i h i (omega arith) in
     rw e at f
     ∙ rw (u_kept s pairs results i i apart, y_kept s pairs results i i apart, add-one, ← length_records s pairs i)

@@ -2,15 +2,16 @@
 -- and share no byte.
 use Rattle.std.specs.Prelude.{ℕ, ◌+◌, ◌*◌, ◌≤◌, ◌⊎◌}
 use Rattle.answer_record.specs.Record.{result_size}
+use Rattle.sheet.specs.declared.questions.Blocks.{Blocks}
 use Rattle.sheet.specs.Sheet.{pair_size}
 
 -- pair i and its record
-pub record PairWithin (size pairs results i : ℕ) : Type 0 where
-  pub pair : pairs + pair_size * i + pair_size ≤ size
-  pub result : results + result_size * i + result_size ≤ size
+pub record PairWithin (size : ℕ) (blocks : Blocks) (i : ℕ) : Type 0 where
+  pub pair : blocks.pairs + pair_size * i + pair_size ≤ size
+  pub result : blocks.results + result_size * i + result_size ≤ size
 
--- n pairs and their records
-pub record BlocksWithin (size n pairs results : ℕ) : Type 0 where
-  pub pairs_end : pairs + pair_size * n ≤ size
-  pub results_end : results + result_size * n ≤ size
-  pub apart : (pairs + pair_size * n ≤ results) ⊎ (results + result_size * n ≤ pairs)
+-- all pairs and their records
+pub record BlocksWithin (size : ℕ) (blocks : Blocks) : Type 0 where
+  pub pairs_end : blocks.pairs + pair_size * blocks.count ≤ size
+  pub results_end : blocks.results + result_size * blocks.count ≤ size
+  pub apart : (blocks.pairs + pair_size * blocks.count ≤ blocks.results) ⊎ (blocks.results + result_size * blocks.count ≤ blocks.pairs)

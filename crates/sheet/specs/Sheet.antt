@@ -1,12 +1,13 @@
 -- Document 01, 'A sheet': the header, the questions to a sheet, the answer to it, and the whole sheet afterwards.
-use Rattle.std.specs.Prelude.{ℕ, zero, suc, ◌+◌, ◌*◌, Bool, cond, ◌&&◌, ◌||◌, List, [], ◌++◌, leb, eqb, length, take, drop}
+use Rattle.std.specs.Prelude.{ℕ, zero, suc, ◌+◌, ◌*◌, Bool, true, false, cond, ◌&&◌, ◌||◌, List, [], ◌++◌, leb, eqb, length, take, drop, Result, Ok, Err}
 use Rattle.index.specs.declared.answer.Answer.{Answer}
-use Rattle.laws.specs.Questions.{ask}
 use Rattle.index.specs.ChosenAnswer.{answer_of}
 use Rattle.answer_record.specs.Bytes.{number_at}
 use Rattle.answer_record.specs.Record.{result_size, record_of}
-use Rattle.sheet.specs.declared.SheetAnswer.{SheetAnswer}
-use Rattle.sheet.specs.declared.SheetAnswer.TheVariants.{Refused, Accepted}
+use Rattle.sheet.specs.declared.questions.Blocks.{Blocks}
+use Rattle.sheet.specs.declared.refusal.Refusal.{Refusal}
+use Rattle.sheet.specs.declared.refusal.Refusal.TheVariants.{NoHeader, TotalNotLength, TooManyPairs, PairsOutside, ResultsOutside, BlocksShareBytes}
+use Rattle.sheet.specs.Numbers.{refusal_number}
 
 -- "Header of four 32-bit numbers: the count n at 0, the offset of the pair block at 4, of the result block at 8, the total length at 12."
 abbrev pub header_size : ℕ
@@ -63,21 +64,40 @@ stands_within begin end total = leb header_size begin && leb end total
 unfoldable pub share_no_byte : ℕ → ℕ → ℕ → ℕ → Bool
 share_no_byte begin end begin' end' = leb end begin' || leb end' begin
 
+-- the blocks that the header names
+abbrev pub named_blocks : List ℕ → Blocks
+named_blocks sheet = record { count = count_of sheet; pairs = pairs_of sheet; results = results_of sheet }
+
+-- a question: no gives its refusal, yes what comes after it
+abbrev pub asked : Bool → Refusal → Result Blocks Refusal → Result Blocks Refusal
+asked true refusal later = later
+asked false refusal later = Err refusal
+
+-- the refusal of the first question that is answered no; the blocks where all are answered yes
+unfoldable pub blocks_of : List ℕ → Result Blocks Refusal
+blocks_of sheet =
+    -- "Has the buffer 16 bytes or more? No: 11."
+    asked (leb header_size (length sheet)) NoHeader
+    -- "Does the total equal the buffer's length? No: 12."
+    (asked (eqb (total_of sheet) (length sheet)) TotalNotLength
+    -- "Is n at most 2,000? No: 13."
+    (asked (leb (count_of sheet) most_pairs) TooManyPairs
+    -- "Does the pair block begin at 16 or later and end (offset + 8n) within the total? No: 14."
+    (asked (stands_within (pairs_of sheet) (end_of_pairs sheet) (total_of sheet)) PairsOutside
+    -- "The same for the result block (offset + 16n)? No: 15."
+    (asked (stands_within (results_of sheet) (end_of_results sheet) (total_of sheet)) ResultsOutside
+    -- "Do the blocks share no byte? No: 16."
+    (asked (share_no_byte (pairs_of sheet) (end_of_pairs sheet) (results_of sheet) (end_of_results sheet)) BlocksShareBytes
+    (Ok (named_blocks sheet)))))))
+
+-- the number of an answer: that of its refusal, 0 where there is none
+abbrev pub sheet_number_of : {A : Type 0} → Result A Refusal → ℕ
+sheet_number_of (Ok x) = 0
+sheet_number_of (Err refusal) = refusal_number refusal
+
 -- the number of the first question that is answered no; 0 where all are answered yes
 unfoldable pub sheet_refusal : List ℕ → ℕ
-sheet_refusal sheet =
-    -- "Has the buffer 16 bytes or more? No: 11."
-    ask (leb header_size (length sheet)) 11
-    -- "Does the total equal the buffer's length? No: 12."
-    (ask (eqb (total_of sheet) (length sheet)) 12
-    -- "Is n at most 2,000? No: 13."
-    (ask (leb (count_of sheet) most_pairs) 13
-    -- "Does the pair block begin at 16 or later and end (offset + 8n) within the total? No: 14."
-    (ask (stands_within (pairs_of sheet) (end_of_pairs sheet) (total_of sheet)) 14
-    -- "The same for the result block (offset + 16n)? No: 15."
-    (ask (stands_within (results_of sheet) (end_of_results sheet) (total_of sheet)) 15
-    -- "Do the blocks share no byte? No: 16."
-    (ask (share_no_byte (pairs_of sheet) (end_of_pairs sheet) (results_of sheet) (end_of_results sheet)) 16 0)))))
+sheet_refusal sheet = sheet_number_of (blocks_of sheet)
 
 -- "pair i is the u and y handed in at the pair offset + 8i": of pairs that begin at `pairs`
 abbrev pub u_at : List ℕ → ℕ → ℕ → ℕ
@@ -99,15 +119,13 @@ records_of sheet pairs (suc i) = records_of sheet pairs i ++ record_of (answer_a
 abbrev pub with_results : List ℕ → List ℕ
 with_results sheet = take (results_of sheet) sheet ++ (records_of sheet (pairs_of sheet) (count_of sheet) ++ drop (end_of_results sheet) sheet)
 
--- "A refused sheet answers the number and keeps all its bytes. An accepted one answers n": the number or the value of each case of the
--- answer, and the sheet afterwards
-unfoldable pub sheet_answer_of : List ℕ → SheetAnswer
-sheet_answer_of sheet = cond (eqb (sheet_refusal sheet) 0) (Accepted (count_of sheet)) (Refused (sheet_refusal sheet))
+-- "A refused sheet answers the number and keeps all its bytes. An accepted one answers n": the refusal, which has the number, or n; and the sheet afterwards
+abbrev pub answer_from : Result Blocks Refusal → Result ℕ Refusal
+answer_from (Ok blocks) = Ok blocks.count
+answer_from (Err refusal) = Err refusal
+
+unfoldable pub sheet_answer_of : List ℕ → Result ℕ Refusal
+sheet_answer_of sheet = answer_from (blocks_of sheet)
 
 unfoldable pub sheet_after : List ℕ → List ℕ
 sheet_after sheet = cond (eqb (sheet_refusal sheet) 0) (with_results sheet) sheet
-
--- the number of an answer to a sheet: 0 where it is accepted
-abbrev pub sheet_number_of : SheetAnswer → ℕ
-sheet_number_of (Refused number) = number
-sheet_number_of (Accepted n) = 0

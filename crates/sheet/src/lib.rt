@@ -3,25 +3,17 @@
 
 pub mod layout;
 mod questions;
+mod refusal;
 mod work;
 
 ghost use Rattle.std.specs.Prelude.{◌≡◌};
 ghost use Rattle.sheet.specs.Sheet.{sheet_answer_of, sheet_after};
 ghost use Rattle.sheet.specs.Demand3.{Demand3};
 
-use answer_record::number_at;
-use layout::*;
-use questions::NONE_FAILED;
-pub use questions::refusal_of;
+pub use questions::Blocks;
+pub use refusal::Refusal;
 pub use work::pair_at;
-use work::work_blocks;
-
-// The answer to a sheet: refused by the question of that number, or accepted with its count of pairs.
-#[derive(Clone, Copy)]
-pub enum SheetAnswer {
-    Refused(u8),
-    Accepted(u32),
-}
+use work::work_pairs;
 
 // A pair, in thousandths of a mm²/s: the viscosity at 40 °C and the one at 100 °C.
 #[derive(Clone, Copy)]
@@ -30,19 +22,13 @@ pub struct Pair {
     pub y: u32,
 }
 
-// The sheet operation: any bytes of any length.
-pub fn work_sheet(sheet: &mut [u8]) -> SheetAnswer
+// The sheet operation: any bytes of any length. The answer is the count of pairs, or the question that refuses the sheet.
+pub fn work_sheet(sheet: &mut [u8]) -> Result<u32, Refusal>
     ensures answer { result ≡ sheet_answer_of sheet.old }
     ensures bytes { sheet.new ≡ sheet_after sheet.old }
     ensures demand3 { Demand3 sheet.old sheet.new }
 {
-    let number = refusal_of(sheet);
-    if number != NONE_FAILED {
-        return SheetAnswer::Refused(number);
-    }
-    let n = number_at(sheet, COUNT_AT);
-    let pairs = number_at(sheet, PAIRS_AT) as usize;
-    let results = number_at(sheet, RESULTS_AT) as usize;
-    work_blocks(sheet, n as usize, pairs, results);
-    SheetAnswer::Accepted(n)
+    let blocks = Blocks::asked_of(sheet)?;
+    work_pairs(sheet, blocks);
+    Ok(blocks.count as u32)
 }

@@ -8,4 +8,4 @@ returns c =
     let at-write = c in
     let at-answer = at-write in
     let pair = at-answer.pair_at-pair.ensures in
-    part_worked _ _ _ _ _ (search rules) (rw (pair.0, pair.1) at at-answer.answer_with_tables-answer.ensures) at-write.write_result.ensures
+    part_worked _ _ _ _ _ (search rules) (rw (pair.0, pair.1) at at-answer.answer_pair-answer.ensures.value) at-write.write_result.ensures

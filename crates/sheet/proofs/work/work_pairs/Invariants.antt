@@ -1,12 +1,8 @@
 -- The loop's invariant: the sheet is that at entry with the records of the pairs passed stored from the result offset on.
-use Prim.Native.Nat.{◌≤◌, ◌-◌}
 use mathlib.Core.Path.{◌≡◌}
 use Rattle.answer_record.specs.Bytes.{stored}
 use Rattle.sheet.specs.Sheet.{records_of}
 use Rattle.sheet.proofs.work.work_pairs.Given as goal
 
 abbrev pub invariant-loop-i : goal.invariant-loop-i
-invariant-loop-i l = (l.i ≤ l.n) × (l.sheet ≡ stored l.initial.sheet l.results (records_of l.initial.sheet l.pairs l.i))
-
-abbrev pub decreases-loop-i : goal.decreases-loop-i
-decreases-loop-i l = l.n - l.i
+invariant-loop-i l = l.sheet ≡ stored l.initial.sheet l.blocks.results (records_of l.initial.sheet l.blocks.pairs l.i)
