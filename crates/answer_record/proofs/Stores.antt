@@ -4,8 +4,10 @@ use mathlib.Core.Path.{◌≡◌, refl, sym, ap, ◌∙◌}
 use mathlib.Core.List.{List, [], ◌∷◌, ◌++◌, append-nil, append_assoc}
 use mathlib.Core.Logic.{◌⊎◌, inl, inr, ⊎_elim}
 use native.Mathlib.Nat.{add-suc, suc-add, add-zero, zero-add}
+use native.Mathlib.Numerals.{add-one}
 use native.Mathlib.Omega.{arith}
 use lib.ListN.{length, get_or, take, drop, set, length-drop, drop_of_length-le, take-append-drop}
+use Rattle.std.proofs.lemmas.List.{drop-drop}
 use lib.Seq.{sets, length-sets, sets-eq, get_or-set_other, take_all, length-take-le}
 use Rattle.answer_record.specs.Bytes.{number_size, number_at, stored}
 
@@ -37,6 +39,15 @@ stored_then l vs ws at e p f = rw (e, p) at f ∙ stored_append l vs ws at
 pub stored_parts : (l vs : List ℕ) (i : ℕ) → i + length vs ≤ length l → stored l i vs ≡ take i l ++ (vs ++ drop (i + length vs) l)
 unfolding stored
 stored_parts l vs i h = rw (← append_assoc) (sets-eq vs l i h)
+
+-- the same as a copy into the part from i on leaves it
+pub copied : (l vs : List ℕ) (i k : ℕ) {ws : List ℕ} → ws ≡ vs → k ≡ length vs → i + k ≤ length l → take i l ++ (ws ++ drop k (drop i l)) ≡ stored l i vs
+copied l vs i k e n h = rw (e, n, drop-drop) (sym (stored_parts l vs i (omega arith)))
+
+-- four stores, one behind the other
+pub four_stored : (l : List ℕ) (i b0 b1 b2 b3 : ℕ) → set (set (set (set l i b0) (i + 1) b1) (i + 2) b2) (i + 3) b3 ≡ stored l i (b0 ∷ b1 ∷ b2 ∷ b3 ∷ [])
+unfolding stored
+four_stored l i b0 b1 b2 b3 = simp (add-one, add_two, add_three)
 
 -- a run as long as the list
 pub stored_whole : (l vs : List ℕ) → length vs ≡ length l → stored l 0 vs ≡ vs

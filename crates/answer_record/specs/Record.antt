@@ -4,6 +4,7 @@ use Rattle.std.specs.Prelude.{ℕ, ◌+◌, ◌≡◌, List, [], ◌∷◌, ◌+
 use Rattle.index.specs.declared.answer.Answer.{Answer}
 use Rattle.index.specs.Answer.{number_of, method_of, index_of, lower_of, upper_of, RightAnswer}
 use Rattle.index.specs.ChosenAnswer.{answer_of}
+use Rattle.answer_record.specs.declared.store.Record.{Record}
 use Rattle.answer_record.specs.Bytes.{number_at, bytes_of, twos_complement, signed_of}
 
 abbrev pub result_size : ℕ
@@ -29,6 +30,17 @@ head_of number method = number ∷ method ∷ 0 ∷ 0 ∷ []
 -- the fields, each at its offset; the index as a 32-bit number
 unfoldable pub laid_out_bytes : ℕ → ℕ → ℕ → ℕ → ℕ → List ℕ
 laid_out_bytes number method index lower upper = head_of number method ++ (bytes_of index ++ (bytes_of lower ++ bytes_of upper))
+
+-- the same of the fields together
+abbrev pub laid_out : Record → List ℕ
+laid_out fields = laid_out_bytes fields.number fields.method fields.index fields.lower fields.upper
+
+-- the fields of a refused pair, and those of an answer
+abbrev pub refused_fields : ℕ → Record
+refused_fields number = record { number = number; method = 0; index = 0; lower = 0; upper = 0 }
+
+abbrev pub fields_of : Answer → Record
+fields_of a = record { number = number_of a; method = method_of a; index = twos_complement (index_of a); lower = lower_of a; upper = upper_of a }
 
 -- the record of an answer
 abbrev pub record_of : Answer → List ℕ

@@ -1,0 +1,78 @@
+// The fields of a record, and how they are laid out.
+ghost use Rattle.std.specs.Prelude.{◌≡◌, ◌+◌, ◌≤◌, length};
+ghost use Rattle.answer_record.specs.Bytes.{stored};
+ghost use Rattle.answer_record.specs.Record.{result_size, refused_fields, fields_of, laid_out};
+
+use crate::bytes::{store_number, twos_complement};
+use crate::layout::*;
+use index::answer::{ANSWERED, Answer, METHOD_A, METHOD_REFUSED, method_of};
+
+// The fields: the pair's number, the method, the index as the 32-bit number that a record has, p and P. What does not apply is zero. The number and
+// the method stay numbers: they are the bytes that document 01 lays out.
+#[derive(Clone, Copy, Debug, PartialEq, Eq)]
+pub struct Record {
+    pub number: u8,
+    pub method: u8,
+    pub index: u32,
+    pub lower: u32,
+    pub upper: u32,
+}
+
+impl Record {
+    // "What does not apply is zero."
+    const ZEROS: Record = Record {
+        number: ANSWERED,
+        method: METHOD_REFUSED,
+        index: 0,
+        lower: 0,
+        upper: 0,
+    };
+
+    // Of a refused pair: its number, and zeros.
+    pub fn refused(number: u8) -> Record
+        ensures { result ≡ refused_fields number }
+    {
+        Record {
+            number,
+            ..Record::ZEROS
+        }
+    }
+}
+
+// Of an answer, procedure by procedure.
+impl From<Answer> for Record {
+    ghost from_gives = { λ answer fields. fields ≡ fields_of answer };
+
+    fn from(answer: Answer) -> Record {
+        match answer {
+            Answer::Refused(number) => Record::refused(number),
+            Answer::A(index) => Record {
+                method: METHOD_A,
+                index: twos_complement(index),
+                ..Record::ZEROS
+            },
+            Answer::B(b) => Record {
+                method: method_of(answer),
+                index: b.index,
+                lower: b.lower,
+                upper: b.upper,
+                ..Record::ZEROS
+            },
+        }
+    }
+}
+
+// Stores the fields of a record, which begins at `at`. An inner function, for callers that know its bytes to be there.
+pub fn store_record(to: &mut [u8], at: usize, fields: Record)
+    requires { at + result_size ≤ length to.old }
+    ensures { to.new ≡ stored to.old at (laid_out fields) }
+{
+    // Byte by byte: a copy of these four as an array goes through the stack, and takes 28 instructions a record where this takes 17.
+    to[at] = fields.number;
+    to[at + METHOD_AT] = fields.method;
+    to[at + 2] = 0;
+    to[at + 3] = 0;
+    store_number(to, at + INDEX_AT, fields.index);
+    store_number(to, at + LOWER_AT, fields.lower);
+    store_number(to, at + UPPER_AT, fields.upper);
+}
