@@ -66,3 +66,6 @@ module _ (s : List ℕ) where
             pub all_yes : blocks_apart s ≡ true → Ok (named_blocks s) ≡ blocks_of s
             unfolding blocks_of
             all_yes h = rw (le-leb _ _ a, eq-eqb _ _ b, le-leb _ _ d, e, f, h)
+
+-- for each return of the code one law: the questions before it were answered yes, its own no
+pub ruleset question_order = (no_11, no_12, no_13, no_14, no_15, no_16, all_yes, pairs_asked, results_asked, apart_asked)

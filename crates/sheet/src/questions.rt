@@ -56,6 +56,7 @@ impl Blocks {
     }
 
     // The blocks of a sheet that fails no question, or the first question that it fails.
+    #[tactic(auto, using(crate::proofs::QuestionOrder::question_order))]
     pub fn asked_of(sheet: &[u8]) -> Result<Blocks, Refusal>
         ensures { result ≡ blocks_of sheet.now }
     {
