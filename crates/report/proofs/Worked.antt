@@ -14,12 +14,10 @@ use Rattle.sheet.proofs.Blocks.{pair_apart}
 use Rattle.sheet.proofs.Records.{u_kept, y_kept}
 use Rattle.sheet.proofs.Worked.{all_stored, number_of_answer, same_length, header_kept}
 use Rattle.sheet.proofs.RecordsAfter.{record_read}
-use Rattle.text_fields.specs.Put.{Put}
-use Rattle.text_fields.proofs.Puts.{put_as, put_length, put_at_start}
 use Rattle.text_lines.specs.Lines.{outcome, printed_line, first_line, refused_line}
 use Rattle.text_lines.specs.FromRecord.{outcome_at, line_at}
 use Rattle.text_lines.proofs.Outcomes.{outcome_by_fields}
-use Rattle.report.specs.Text.{printed_lines, text_by, text_of, most_input, printed, text_after, input_after, too_long_refusal}
+use Rattle.report.specs.Text.{printed_lines, text_by, text_of, most_input, printed, input_after, too_long_refusal}
 use Rattle.report.specs.LongestInput.{LongestInput}
 use Rattle.report.specs.FromRecords.{lines_at}
 use Rattle.report.specs.Preconditions.{Readable}
@@ -90,9 +88,6 @@ module _ (s : List ℕ) where
   unfolding input_after
   too_long_kept h = rw (lt-leb _ _ h)
 
-  pub too_long_not : {P : Type 0} → most_input < length s → length s ≤ most_input → P
-  too_long_not h k = absurd (omega arith)
-
   module _ (h : length s ≤ most_input) where
     by_answer : (a : SheetAnswer) → sheet_answer_of s ≡ a → text_by s a ≡ printed s
     unfolding printed text_of
@@ -114,22 +109,8 @@ module _ (s : List ℕ) where
     unfolding input_after
     worked_kept t w = rw (le-leb _ _ h) w
 
--- what is put at the start of the lent buffer, as the operation's promise has it
-pub record PutWhole (s lent text : List ℕ) (count : ℕ) : Type 0 where
-  pub count_is : count ≡ length (printed s)
-  pub within : count ≤ length text
-  pub bytes : text ≡ text_after s lent
-
-pub put_whole : (s lent : List ℕ) {w count : ℕ} {text vs : List ℕ} → vs ≡ printed s → Put w lent 0 vs text count → w ≤ length lent
-    → PutWhole s lent text count
-unfolding text_after
-put_whole s lent {w} {count} {text} {vs} e p h =
-    let q = put_as e p in
-    record {
-      count_is = omega (arith, q.past);
-      within = omega (arith, q.past, q.short, put_length q);
-      bytes = put_at_start q h;
-    }
+-- what the operation's proof leans on
+pub ruleset printing = (too_long, too_long_kept, readable_by, refused_printed, accepted_printed, worked_kept)
 
 pub longest_input : LongestInput
 unfolding printed input_after

@@ -1,7 +1,7 @@
 -- Document 01, 'The printing program': the whole text of a sheet, as the list of its bytes. It is determined by the sheet as it was handed in.
 -- "It reads a sheet from standard input, works it and writes ASCII lines ..: "pairs" and n; then for each pair" its line; "A refused sheet prints
 -- only the one line". Which bytes those lines are stands in `Lines` of the crate `text_lines`.
-use Rattle.std.specs.Prelude.{ℕ, zero, suc, cond, List, [], ◌++◌, leb, length, drop}
+use Rattle.std.specs.Prelude.{ℕ, zero, suc, cond, List, [], ◌++◌, leb, length}
 use Rattle.sheet.specs.declared.SheetAnswer.{SheetAnswer}
 use Rattle.sheet.specs.declared.SheetAnswer.TheVariants as sheet_answer
 use Rattle.sheet.specs.Sheet.{pairs_of, u_at, y_at, answer_at, sheet_answer_of, sheet_after}
@@ -32,9 +32,6 @@ too_long_refusal = 12
 unfoldable pub printed : List ℕ → List ℕ
 printed input = cond (leb (length input) most_input) (text_of input) (refused_line too_long_refusal)
 
--- the lent buffer afterwards: what is printed, and then what stood there before; and the input afterwards
-unfoldable pub text_after : List ℕ → List ℕ → List ℕ
-text_after input lent = printed input ++ drop (length (printed input)) lent
-
+-- the input afterwards
 unfoldable pub input_after : List ℕ → List ℕ
 input_after input = cond (leb (length input) most_input) (sheet_after input) input

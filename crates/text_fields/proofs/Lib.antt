@@ -1,4 +1,2 @@
--- The laws of text: what the proofs of the functions cite, here and in the crates above.
-pub mod Puts
+-- The laws of the fields: what the proofs of the functions cite, here and in the crates above.
 pub mod Digits
-pub mod Signs

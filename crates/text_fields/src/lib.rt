@@ -1,105 +1,82 @@
-// The fields of a printed line: which bytes are a number, a viscosity, an index, a word? Each function puts one into a lent buffer at the offset
-// `at`, and answers the offset behind it; a local is named after what is put at that offset. They are inner functions, for callers that know the
-// room to be there.
+// The fields of a printed line: which bytes are a number, a viscosity, an index, a word? Each function answers one as a text of its own, which lies in
+// the value itself: nothing is allocated, and the greatest width of the field is the text's capacity.
 #![tactic(auto)]
 
-ghost use Rattle.std.specs.Prelude.{[], ◌∷◌, ◌+◌, ◌≤◌, length};
-ghost use Rattle.answer_record.specs.Bytes.{signed_of};
+ghost use Rattle.std.specs.Prelude.{◌≡◌, ◌+◌, ◌≤◌, ◌++◌, length};
 ghost use Rattle.text_fields.specs.Fields.{line_end, digit, decimal, viscosity, signed_decimal, worded};
-ghost use Rattle.text_fields.specs.Put.{Put};
-ghost use Rattle.text_fields.specs.Widths.{viscosity_width, index_width, worded_width};
 
-use answer_record::layout::{FIRST_NEGATIVE, LAST_NEGATIVE};
+use arrayvec::ArrayString;
 
-// ASCII codes; ZERO is that of the digit 0.
-pub const SPACE: u8 = b' ';
+// The greatest widths, in bytes. A number of 32 bits has at most 10 digits; a viscosity has at most 7 before its point and 3 behind it
+// (4294967.295); an index has a sign.
+pub const NUMBER_WIDTH: usize = 10;
 
-const POINT: u8 = b'.';
+pub const VISCOSITY_WIDTH: usize = 11;
 
-const MINUS: u8 = b'-';
+pub const INDEX_WIDTH: usize = 11;
 
-const ZERO: u32 = 48;
-
-// One byte.
-pub fn put_byte(to: &mut [u8], at: usize, byte: u8) -> usize
-    requires { at + 1 ≤ length to.old }
-    ensures { Put 1 to.old at (byte ∷ []) to.new result }
-{
-    to[at] = byte;
-    at + 1
-}
-
-// The bytes of a word.
-pub fn put_word(to: &mut [u8], at: usize, word: &[u8]) -> usize
-    requires { at + length word.now ≤ length to.old }
-    ensures { Put (length word.now) to.old at word.now to.new result }
-{
-    let mut i: usize = 0;
-    while i < word.len() {
-        to[at + i] = word[i];
-        i += 1;
-    }
-    at + i
-}
-
-// The line's end, byte 10.
-pub fn put_line_end(to: &mut [u8], at: usize) -> usize
-    requires { at + 1 ≤ length to.old }
-    ensures { Put 1 to.old at line_end to.new result }
-{
-    put_word(to, at, b"\n")
-}
+pub const SPACE: &str = " ";
 
 // The last decimal digit of n.
-fn put_digit(to: &mut [u8], at: usize, n: u32) -> usize
-    requires { at + 1 ≤ length to.old }
-    ensures { Put 1 to.old at (digit n) to.new result }
+fn digit(n: u32) -> ArrayString<1>
+    ensures { result.bytes ≡ digit n }
 {
-    put_byte(to, at, (ZERO + n % 10) as u8)
+    let mut text = ArrayString::new();
+    text.push((b'0' + (n % 10) as u8) as char);
+    text
 }
 
 // The decimal digits of n.
-fn put_decimal(to: &mut [u8], at: usize, n: u32) -> usize
-    requires { at + length (decimal n) ≤ length to.old }
-    ensures { Put (length (decimal n)) to.old at (decimal n) to.new result }
+#[tactic(auto, using(crate::proofs::Digits::as_printed))]
+pub fn decimal(n: u32) -> ArrayString<NUMBER_WIDTH>
+    ensures { result.bytes ≡ decimal n }
 {
-    if n < 10 {
-        return put_digit(to, at, n);
-    }
-    let last = put_decimal(to, at, n / 10);
-    put_digit(to, last, n)
+    let mut text = ArrayString::new();
+    text.push_str(itoa::Buffer::new().format(n));
+    text
 }
 
 // A viscosity of x thousandths, with three decimals.
-pub fn put_viscosity(to: &mut [u8], at: usize, x: u32) -> usize
-    requires { at + viscosity_width ≤ length to.old }
-    ensures { Put viscosity_width to.old at (viscosity x) to.new result }
+#[tactic(auto, using(crate::proofs::Digits::digits_of_whole), unfolding(crate::specs::Fields::viscosity))]
+pub fn viscosity(x: u32) -> ArrayString<VISCOSITY_WIDTH>
+    ensures { result.bytes ≡ viscosity x }
 {
-    let point = put_decimal(to, at, x / 1000);
-    let tenths = put_byte(to, point, POINT);
-    let hundredths = put_digit(to, tenths, x / 100);
-    let thousandths = put_digit(to, hundredths, x / 10);
-    put_digit(to, thousandths, x)
+    let mut text = ArrayString::new();
+    text.push_str(&decimal(x / 1000));
+    text.push_str(".");
+    text.push_str(&digit(x / 100));
+    text.push_str(&digit(x / 10));
+    text.push_str(&digit(x));
+    text
 }
 
-// An index in two's complement.
-pub fn put_index(to: &mut [u8], at: usize, bits: u32) -> usize
-    requires { at + index_width ≤ length to.old }
-    ensures { Put index_width to.old at (signed_decimal (signed_of bits)) to.new result }
+// An index, with a minus sign where it is below zero.
+#[tactic(auto, using(crate::proofs::Digits::signed_as_printed))]
+pub fn signed_decimal(index: i32) -> ArrayString<INDEX_WIDTH>
+    ensures { result.bytes ≡ signed_decimal index }
 {
-    if bits < FIRST_NEGATIVE {
-        return put_decimal(to, at, bits);
-    }
-    let number = put_byte(to, at, MINUS);
-    put_decimal(to, number, LAST_NEGATIVE - bits + 1)
+    let mut text = ArrayString::new();
+    text.push_str(itoa::Buffer::new().format(index));
+    text
 }
 
-// A word, a space and the decimal digits of n.
-pub fn put_worded(to: &mut [u8], at: usize, word: &[u8], n: u32) -> usize
-    requires { at + worded_width word.now n ≤ length to.old }
-    ensures { Put (worded_width word.now n) to.old at (worded word.now (decimal n)) to.new result }
+// A word, a space and a number of any kind.
+pub fn worded<const N: usize>(word: &str, number: &str) -> ArrayString<N>
+    requires { length word.now + 1 + length number.now ≤ N }
+    ensures { result.bytes ≡ worded word.now number.now }
 {
-    let space = put_word(to, at, word);
-    let digits = put_byte(to, space, SPACE);
-    put_decimal(to, digits, n)
+    let mut text = ArrayString::new();
+    text.push_str(word);
+    text.push_str(SPACE);
+    text.push_str(number);
+    text
+}
+
+// A line's fields with the line's end, byte 10.
+pub fn ended<const N: usize>(mut line: ArrayString<N>) -> ArrayString<N>
+    requires { length line.bytes + 1 ≤ N }
+    ensures { result.bytes ≡ line.entry.bytes ++ line_end }
+{
+    line.push_str("\n");
+    line
 }

@@ -1,4 +1,4 @@
 -- The laws of the lines: what the proofs of the functions cite, and the report's.
 pub mod Outcomes
-pub mod FromRecord
+pub mod Widths
 pub mod Examples

@@ -1,119 +1,84 @@
 // The lines of a sheet's text: which bytes are its first line, the line of a refused sheet, the line of a pair? As in the crate `text_fields`, each
-// function puts its text into a lent buffer at the offset `at`, and answers the offset behind it. They are inner functions, for callers that know
-// the room, and the bytes that they read, to be there.
+// function answers a text of its own. Those that read a sheet are inner functions, for callers that know the bytes that they read to be there.
 #![tactic(auto)]
 
-ghost use Rattle.std.specs.Prelude.{◌++◌, ◌+◌, ◌≤◌, length};
-ghost use Rattle.answer_record.specs.Bytes.{signed_of};
+ghost use Rattle.std.specs.Prelude.{◌≡◌, ◌+◌, ◌≤◌, length};
 ghost use Rattle.answer_record.specs.Record.{result_size};
 ghost use Rattle.sheet.specs.Sheet.{most_pairs};
 ghost use Rattle.sheet.specs.Preconditions.{PairWithin};
-ghost use Rattle.text_fields.specs.Fields.{ascii, line_end, decimal, signed_decimal, worded};
-ghost use Rattle.text_fields.specs.Put.{Put};
-ghost use Rattle.text_fields.specs.Widths.{worded_width};
 ghost use Rattle.text_lines.specs.Lines.{first_line, refused_line};
-ghost use Rattle.text_lines.specs.Widths.{method_width, outcome_width, line_width, first_line_width, refused_line_width};
 ghost use Rattle.text_lines.specs.FromRecord.{outcome_by, outcome_at, line_at};
 
 use answer_record::layout::{INDEX_AT, METHOD_AT, RESULT_SIZE};
+use arrayvec::ArrayString;
 use index::answer::{METHOD_A, METHOD_B_SETTLED, METHOD_REFUSED};
-use text_fields::SPACE;
+use text_fields::{
+    INDEX_WIDTH, SPACE, VISCOSITY_WIDTH, decimal, ended, signed_decimal, viscosity, worded,
+};
 
-// The greatest widths, in bytes. The first line, "pairs 2000", is 11 with its end. The line of a pair is at most 39: two viscosities of at most 11
-// (4294967.295), a method of at most 2 (B~), an index of at most 11 with its sign, three spaces and the line's end.
+// The greatest widths, in bytes: the first line is "pairs 2000" and its end, the line of a refused sheet "sheet refused 255" and its end. The outcome of a
+// pair is a method of at most 2 (B~), a space and an index; "refused" and a number of one byte are shorter. Its line is two viscosities and the outcome,
+// the spaces between them and the line's end.
 pub const FIRST_LINE_WIDTH: usize = 11;
 
-pub const LINE_WIDTH: usize = 39;
+pub const REFUSED_LINE_WIDTH: usize = 18;
 
-// A word, a space, the decimal digits of n and the line's end, at the start of the buffer.
-fn put_worded_line(to: &mut [u8], word: &[u8], n: u32) -> usize
-    requires { worded_width word.now n + 1 ≤ length to.old }
-    ensures { Put (worded_width word.now n + 1) to.old 0 (worded word.now (decimal n) ++ line_end) to.new result }
-{
-    let end = text_fields::put_worded(to, 0, word, n);
-    text_fields::put_line_end(to, end)
-}
+const OUTCOME_WIDTH: usize = 2 + 1 + INDEX_WIDTH;
+
+pub const LINE_WIDTH: usize = VISCOSITY_WIDTH + 1 + VISCOSITY_WIDTH + 1 + OUTCOME_WIDTH + 1;
 
 // The first line: "pairs" and n.
-pub fn put_first_line(to: &mut [u8], n: u32) -> usize
-    requires { (first_line_width ≤ length to.old) × (n ≤ most_pairs) }
-    ensures { Put first_line_width to.old 0 (first_line n) to.new result }
+#[tactic(auto, using(crate::proofs::Widths::digits_of_count), unfolding(crate::specs::Lines::first_line))]
+pub fn first_line(n: u32) -> ArrayString<FIRST_LINE_WIDTH>
+    requires { n ≤ most_pairs }
+    ensures { result.bytes ≡ first_line n }
 {
-    put_worded_line(to, b"pairs", n)
+    ended(worded("pairs", &decimal(n)))
 }
 
 // The line of a refused sheet: "sheet refused" and its number.
-pub fn put_sheet_refused(to: &mut [u8], number: u8) -> usize
-    requires { refused_line_width ≤ length to.old }
-    ensures { Put refused_line_width to.old 0 (refused_line number) to.new result }
+#[tactic(auto, using(crate::proofs::Widths::digits_of_byte), unfolding(crate::specs::Lines::refused_line))]
+pub fn refused_line(number: u8) -> ArrayString<REFUSED_LINE_WIDTH>
+    ensures { result.bytes ≡ refused_line number }
 {
-    put_worded_line(to, b"sheet refused", number as u32)
+    ended(worded("sheet refused", &decimal(number as u32)))
 }
 
-// A method's word, a space and the index.
-fn put_answered(to: &mut [u8], at: usize, word: &[u8], bits: u32) -> usize
-    requires short { length word.now ≤ method_width }
-    requires room { at + outcome_width ≤ length to.old }
-    ensures { Put outcome_width to.old at (worded word.now (signed_decimal (signed_of bits))) to.new result }
+// The outcome of a pair, by the fields of its record. The method is a byte of the sheet's format, which may hold any number; one that is none of the
+// other three is B near.
+#[tactic(auto, using(crate::proofs::Widths::digits_of_byte))]
+fn outcome_by(number: u8, method: u8, index: i32) -> ArrayString<OUTCOME_WIDTH>
+    ensures { result.bytes ≡ outcome_by number method index }
 {
-    let space = text_fields::put_word(to, at, word);
-    let index = text_fields::put_byte(to, space, SPACE);
-    text_fields::put_index(to, index, bits)
-}
-
-// "refused" and the number of a refused pair.
-fn put_refused(to: &mut [u8], at: usize, number: u8) -> usize
-    requires { at + outcome_width ≤ length to.old }
-    ensures { Put outcome_width to.old at (worded (ascii "refused") (decimal number)) to.new result }
-{
-    text_fields::put_worded(to, at, b"refused", number as u32)
-}
-
-// The outcome of a pair, by the fields of its record. A method that is none of the other three is B near.
-fn put_outcome(to: &mut [u8], at: usize, number: u8, method: u8, bits: u32) -> usize
-    requires { at + outcome_width ≤ length to.old }
-    ensures { Put outcome_width to.old at (outcome_by number method (signed_of bits)) to.new result }
-{
-    if method == METHOD_REFUSED {
-        return put_refused(to, at, number);
+    match method {
+        METHOD_REFUSED => worded("refused", &decimal(number as u32)),
+        METHOD_A => worded("A", &signed_decimal(index)),
+        METHOD_B_SETTLED => worded("B", &signed_decimal(index)),
+        _ => worded("B~", &signed_decimal(index)),
     }
-    if method == METHOD_A {
-        return put_answered(to, at, b"A", bits);
-    }
-    if method == METHOD_B_SETTLED {
-        return put_answered(to, at, b"B", bits);
-    }
-    put_answered(to, at, b"B~", bits)
 }
 
 // The outcome of the pair whose record begins at `from`.
-fn put_outcome_at(to: &mut [u8], at: usize, sheet: &[u8], from: usize) -> usize
-    requires room { at + outcome_width ≤ length to.old }
-    requires record_within { from + result_size ≤ length sheet.now }
-    ensures { Put outcome_width to.old at (outcome_at sheet.now from) to.new result }
+fn outcome_at(sheet: &[u8], from: usize) -> ArrayString<OUTCOME_WIDTH>
+    requires { from + result_size ≤ length sheet.now }
+    ensures { result.bytes ≡ outcome_at sheet.now from }
 {
-    let bits = answer_record::number_at(sheet, from + INDEX_AT);
-    put_outcome(to, at, sheet[from], sheet[from + METHOD_AT], bits)
+    let index = answer_record::number_at(sheet, from + INDEX_AT).cast_signed();
+    outcome_by(sheet[from], sheet[from + METHOD_AT], index)
 }
 
 // The line of pair i and its record, of blocks that begin at `pairs` and at `results`.
-pub fn put_line(
-    to: &mut [u8],
-    at: usize,
-    sheet: &[u8],
-    pairs: usize,
-    results: usize,
-    i: usize,
-) -> usize
-    requires room { at + line_width ≤ length to.old }
-    requires pair_within { PairWithin (length sheet.now) pairs results i }
-    ensures { Put line_width to.old at (line_at sheet.now pairs results i) to.new result }
+#[tactic(auto, unfolding(crate::specs::Lines::printed_line))]
+pub fn line_at(sheet: &[u8], pairs: usize, results: usize, i: usize) -> ArrayString<LINE_WIDTH>
+    requires { PairWithin (length sheet.now) pairs results i }
+    ensures { result.bytes ≡ line_at sheet.now pairs results i }
 {
     let pair = sheet::pair_at(sheet, pairs, i);
-    let first = text_fields::put_viscosity(to, at, pair.u);
-    let second = text_fields::put_byte(to, first, SPACE);
-    let third = text_fields::put_viscosity(to, second, pair.y);
-    let fourth = text_fields::put_byte(to, third, SPACE);
-    let end = put_outcome_at(to, fourth, sheet, results + RESULT_SIZE * i);
-    text_fields::put_line_end(to, end)
+    let mut line = ArrayString::new();
+    line.push_str(&viscosity(pair.u));
+    line.push_str(SPACE);
+    line.push_str(&viscosity(pair.y));
+    line.push_str(SPACE);
+    line.push_str(&outcome_at(sheet, results + RESULT_SIZE * i));
+    ended(line)
 }

@@ -8,7 +8,7 @@ fn main(rt: HostRuntime) {
     }
     let mut input = [0u8; report::INPUT_SIZE];
     let count = streams::read_input(&rt, &mut input);
-    let mut text = [0u8; report::TEXT_SIZE];
-    let written = report::print_sheet(&mut input[..count], &mut text);
-    streams::write_output(&rt, &text[..written]);
+    let mut text = report::Text::new();
+    report::print_sheet(&mut input[..count], &mut text);
+    streams::write_output(&rt, text.as_bytes());
 }
