@@ -13,8 +13,7 @@ fn say_why(rt: &impl Eprint, what: &str, why: Error) {
 
 // Whether standard input can be read: a read of no bytes fails where it is a folder or closed.
 pub fn can_read(rt: &(impl Input + Eprint)) -> bool {
-    let mut none = [0u8; 0];
-    match rt.reader().read(&mut none) {
+    match rt.reader().read(&mut []) {
         Ok(_) => true,
         Err(why) => {
             say_why(rt, "standard input", why);
@@ -23,20 +22,20 @@ pub fn can_read(rt: &(impl Input + Eprint)) -> bool {
     }
 }
 
-// Reads standard input into the buffer until it is full, the input ends or a read fails, and says how many bytes that are.
-pub fn read_input(rt: &impl Input, into: &mut [u8]) -> usize
-    ensures { result ≤ length into.old }
+// Reads standard input into the buffer until it is full, the input ends or a read fails, and answers the part that was filled.
+pub fn read_input<'a>(rt: &impl Input, into: &'a mut [u8]) -> &'a mut [u8]
+    ensures { length result.now ≤ length into.old }
 {
     let mut reader = rt.reader();
     let mut count: usize = 0;
+    // The library's methods do not serve: read_to_end asks for a Vec, that is heap; after read_exact no count is known; bytes reads a byte a call.
     while count < into.len() {
         match reader.read(&mut into[count..]) {
-            Ok(0) => return count,
+            Ok(0) | Err(_) => break,
             Ok(more) => count += more,
-            Err(_) => return count,
         }
     }
-    count
+    &mut into[..count]
 }
 
 // Writes the bytes to standard output.
@@ -46,7 +45,7 @@ pub fn write_output(rt: &(impl Print + Eprint), bytes: &[u8]) {
     }
 }
 
-// Writes a line to standard error, which the program hands in.
-pub fn say(err: &impl Print, line: &[u8]) {
-    let _ = err.write_all(line);
+// Writes a line to standard error.
+pub fn say(rt: &impl Eprint, line: &str) {
+    let _ = eprintln!(rt; "{line}");
 }

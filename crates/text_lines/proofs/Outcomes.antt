@@ -11,14 +11,6 @@ use Rattle.text_fields.specs.Fields.{ascii, decimal, signed_decimal, worded}
 use Rattle.text_lines.specs.Lines.{procedure_b, outcome}
 use Rattle.text_lines.specs.FromRecord.{outcome_by}
 
--- the last method
-pub near_outcome : (number method : ℕ) (index : ℤ) → (method ≡ 0 → ⊥) → (method ≡ 1 → ⊥) → (method ≡ 2 → ⊥)
-    → worded (ascii "B~") (signed_decimal index) ≡ outcome_by number method index
-near_outcome number zero index a b d = absurd (a refl)
-near_outcome number (suc zero) index a b d = absurd (b refl)
-near_outcome number (suc (suc zero)) index a b d = absurd (d refl)
-near_outcome number (suc (suc (suc more))) index a b d = refl
-
 -- the outcome by the fields of an answer's record is the answer's
 by_mark : (m : Mark) (k : ℕ) → outcome_by 0 (method_of_mark m) (pos k) ≡ worded (procedure_b m) (decimal k)
 by_mark mark.Settled k = refl

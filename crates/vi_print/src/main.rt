@@ -7,8 +7,8 @@ fn main(rt: HostRuntime) {
         return;
     }
     let mut input = [0u8; report::INPUT_SIZE];
-    let count = streams::read_input(&rt, &mut input);
+    let sheet = streams::read_input(&rt, &mut input);
     let mut text = report::Text::new();
-    report::print_sheet(&mut input[..count], &mut text);
+    report::print_sheet(sheet, &mut text);
     streams::write_output(&rt, text.as_bytes());
 }

@@ -4,19 +4,16 @@
 
 use sheet::SheetAnswer;
 
-fn work(rt: &HostRuntime, input: &mut [u8]) {
-    if input.len() > report::MOST_INPUT {
-        streams::say(
-            &rt.stderr(),
-            b"not worked: the input is longer than 65,536 bytes\n",
-        );
+fn work(rt: &HostRuntime, sheet: &mut [u8]) {
+    if sheet.len() > report::MOST_INPUT {
+        streams::say(rt, "not worked: the input is longer than 65,536 bytes");
         return;
     }
-    match sheet::work_sheet(input) {
-        SheetAnswer::Accepted(_) => streams::write_output(rt, input),
+    match sheet::work_sheet(sheet) {
+        SheetAnswer::Accepted(_) => streams::write_output(rt, sheet),
         SheetAnswer::Refused(_) => streams::say(
-            &rt.stderr(),
-            b"not worked: the sheet is refused; vi_print prints the number\n",
+            rt,
+            "not worked: the sheet is refused; vi_print prints the number",
         ),
     }
 }
@@ -26,6 +23,6 @@ fn main(rt: HostRuntime) {
         return;
     }
     let mut input = [0u8; report::INPUT_SIZE];
-    let count = streams::read_input(&rt, &mut input);
-    work(&rt, &mut input[..count]);
+    let sheet = streams::read_input(&rt, &mut input);
+    work(&rt, sheet);
 }
