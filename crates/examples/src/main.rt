@@ -15,13 +15,9 @@ use sheet::SheetAnswer;
 use sheet::layout::{HEADER_SIZE, PAIRS_AT, RESULTS_AT};
 use std::io;
 
-pub fn told(rt: &impl Print, example: &[u8], good: bool) -> io::Result<()> {
-    rt.write_all(example)?;
-    if good {
-        rt.write_all(b": ok\n")
-    } else {
-        rt.write_all(b": WRONG\n")
-    }
+pub fn told(rt: &impl Print, example: &str, good: bool) -> io::Result<()> {
+    let found = if good { "ok" } else { "WRONG" };
+    println!(rt; "{example}: {found}")
 }
 
 // L or H, in units of 10^-10 mm²/s; 0, which neither is, where y is refused.
@@ -116,77 +112,77 @@ fn sheet_answers(at: usize, x: u8, number: u8) -> bool
 }
 
 fn l_and_h(rt: &impl Print) -> io::Result<()> {
-    told(rt, b"y 8860: L 119.94", l_of(8_860) == 1_199_400_000_000)?;
-    told(rt, b"y 8860: H 69.48", h_of(8_860) == 694_800_000_000)?;
-    told(rt, b"y 5050: H 28.975", h_of(5_050) == 289_750_000_000)?;
-    told(rt, b"y 70000: L 4905", l_of(70_000) == 49_050_000_000_000)?;
-    told(rt, b"y 70000: H 1556", h_of(70_000) == 15_560_000_000_000)?;
+    told(rt, "y 8860: L 119.94", l_of(8_860) == 1_199_400_000_000)?;
+    told(rt, "y 8860: H 69.48", h_of(8_860) == 694_800_000_000)?;
+    told(rt, "y 5050: H 28.975", h_of(5_050) == 289_750_000_000)?;
+    told(rt, "y 70000: L 4905", l_of(70_000) == 49_050_000_000_000)?;
+    told(rt, "y 70000: H 1556", h_of(70_000) == 15_560_000_000_000)?;
     told(
         rt,
-        b"y 70001: L 49040016128353 units",
+        "y 70001: L 49040016128353 units",
         l_of(70_001) == 49_040_016_128_353,
     )?;
     told(
         rt,
-        b"y 70001: L below the row at 70",
+        "y 70001: L below the row at 70",
         l_of(70_001) < l_of(70_000),
     )?;
     Ok(())
 }
 
 fn answered_pairs(rt: &impl Print) -> io::Result<()> {
-    told(rt, b"(73300, 8860): A 92", by_a(73_300, 8_860, 92))?;
-    told(rt, b"(53470, 7080): A 87", by_a(53_470, 7_080, 87))?;
-    told(rt, b"(53470, 7800): B 111", by_b(53_470, 7_800, 111))?;
-    told(rt, b"(28490, 5000): A 100", by_a(28_490, 5_000, 100))?;
-    told(rt, b"(28489, 5000): B 100", by_b(28_489, 5_000, 100))?;
-    told(rt, b"(7986, 2000): A 1", by_a(7_986, 2_000, 1))?;
-    told(rt, b"(8018, 2000): A -1", by_a(8_018, 2_000, -1))?;
+    told(rt, "(73300, 8860): A 92", by_a(73_300, 8_860, 92))?;
+    told(rt, "(53470, 7080): A 87", by_a(53_470, 7_080, 87))?;
+    told(rt, "(53470, 7800): B 111", by_b(53_470, 7_800, 111))?;
+    told(rt, "(28490, 5000): A 100", by_a(28_490, 5_000, 100))?;
+    told(rt, "(28489, 5000): B 100", by_b(28_489, 5_000, 100))?;
+    told(rt, "(7986, 2000): A 1", by_a(7_986, 2_000, 1))?;
+    told(rt, "(8018, 2000): A -1", by_a(8_018, 2_000, -1))?;
     told(
         rt,
-        b"(1000000000, 2000): A -62499500",
+        "(1000000000, 2000): A -62499500",
         by_a(1_000_000_000, 2_000, -62_499_500),
     )?;
-    told(rt, b"(6188000, 100000): A 50", by_a(6_188_000, 100_000, 50))?;
+    told(rt, "(6188000, 100000): A 50", by_a(6_188_000, 100_000, 50))?;
     Ok(())
 }
 
 fn refused_pairs(rt: &impl Print) -> io::Result<()> {
-    told(rt, b"L and H at y 1999: refused 1", basis_refused(1_999, 1))?;
-    told(rt, b"(20000, 1999): refused 1", refused(20_000, 1_999, 1))?;
+    told(rt, "L and H at y 1999: refused 1", basis_refused(1_999, 1))?;
+    told(rt, "(20000, 1999): refused 1", refused(20_000, 1_999, 1))?;
     told(
         rt,
-        b"L and H at y 500001: refused 2",
+        "L and H at y 500001: refused 2",
         basis_refused(500_001, 2),
     )?;
     told(
         rt,
-        b"(600000, 500001): refused 2",
+        "(600000, 500001): refused 2",
         refused(600_000, 500_001, 2),
     )?;
     told(
         rt,
-        b"(1000000001, 2000): refused 3",
+        "(1000000001, 2000): refused 3",
         refused(1_000_000_001, 2_000, 3),
     )?;
-    told(rt, b"(2000, 2000): refused 4", refused(2_000, 2_000, 4))?;
+    told(rt, "(2000, 2000): refused 4", refused(2_000, 2_000, 4))?;
     Ok(())
 }
 
 fn sheets(rt: &impl Print) -> io::Result<()> {
     told(
         rt,
-        b"16 bytes, n 0, offsets 16 and 16, total 16: accepted, unchanged",
+        "16 bytes, n 0, offsets 16 and 16, total 16: accepted, unchanged",
         sheet_answers(PAIRS_AT, 16, 0),
     )?;
     told(
         rt,
-        b"pair offset 17 there: refused 14",
+        "pair offset 17 there: refused 14",
         sheet_answers(PAIRS_AT, 17, 14),
     )?;
     told(
         rt,
-        b"only the result offset 17: refused 15",
+        "only the result offset 17: refused 15",
         sheet_answers(RESULTS_AT, 17, 15),
     )?;
     Ok(())
@@ -195,32 +191,32 @@ fn sheets(rt: &impl Print) -> io::Result<()> {
 fn constants_at_40(rt: &impl Print) -> io::Result<()> {
     told(
         rt,
-        b"constant at 40, viscosity 9500, density 8700: 840",
+        "constant at 40, viscosity 9500, density 8700: 840",
         constant_is(Temperature::At40, 9_500, 8_700, 840),
     )?;
     told(
         rt,
-        b"constant at 40, viscosity 46000, density 8750: 815",
+        "constant at 40, viscosity 46000, density 8750: 815",
         constant_is(Temperature::At40, 46_000, 8_750, 815),
     )?;
     told(
         rt,
-        b"constant at 40, viscosity 6500, density 8600: 844",
+        "constant at 40, viscosity 6500, density 8600: 844",
         constant_is(Temperature::At40, 6_500, 8_600, 844),
     )?;
     told(
         rt,
-        b"constant at 40, viscosity 1000000000, density 5000: -905",
+        "constant at 40, viscosity 1000000000, density 5000: -905",
         constant_is(Temperature::At40, 1_000_000_000, 5_000, -905),
     )?;
     told(
         rt,
-        b"constant at 40, viscosity 5501, density 15000: 1405",
+        "constant at 40, viscosity 5501, density 15000: 1405",
         constant_is(Temperature::At40, 5_501, 15_000, 1_405),
     )?;
     told(
         rt,
-        b"constant at 40, viscosity 1000000000, density 15000: 2592",
+        "constant at 40, viscosity 1000000000, density 15000: 2592",
         constant_is(Temperature::At40, 1_000_000_000, 15_000, 2_592),
     )?;
     Ok(())
@@ -229,22 +225,22 @@ fn constants_at_40(rt: &impl Print) -> io::Result<()> {
 fn constants_at_100(rt: &impl Print) -> io::Result<()> {
     told(
         rt,
-        b"constant at 100, viscosity 2500, density 8700: 835",
+        "constant at 100, viscosity 2500, density 8700: 835",
         constant_is(Temperature::At100, 2_500, 8_700, 835),
     )?;
     told(
         rt,
-        b"constant at 100, viscosity 1800, density 9000: 880",
+        "constant at 100, viscosity 1800, density 9000: 880",
         constant_is(Temperature::At100, 1_800, 9_000, 880),
     )?;
     told(
         rt,
-        b"constant at 100, viscosity 801, density 5000: 645",
+        "constant at 100, viscosity 801, density 5000: 645",
         constant_is(Temperature::At100, 801, 5_000, 645),
     )?;
     told(
         rt,
-        b"constant at 100, viscosity 500000, density 15000: 1650",
+        "constant at 100, viscosity 500000, density 15000: 1650",
         constant_is(Temperature::At100, 500_000, 15_000, 1_650),
     )?;
     Ok(())
@@ -253,37 +249,37 @@ fn constants_at_100(rt: &impl Print) -> io::Result<()> {
 fn refused_constants(rt: &impl Print) -> io::Result<()> {
     told(
         rt,
-        b"constant at 40, viscosity 5500, density 8700: refused 21",
+        "constant at 40, viscosity 5500, density 8700: refused 21",
         constant_refused(Temperature::At40, 5_500, 8_700, 21),
     )?;
     told(
         rt,
-        b"constant at 40, viscosity 1000000001, density 8700: refused 21",
+        "constant at 40, viscosity 1000000001, density 8700: refused 21",
         constant_refused(Temperature::At40, 1_000_000_001, 8_700, 21),
     )?;
     told(
         rt,
-        b"constant at 100, viscosity 800, density 8700: refused 21",
+        "constant at 100, viscosity 800, density 8700: refused 21",
         constant_refused(Temperature::At100, 800, 8_700, 21),
     )?;
     told(
         rt,
-        b"constant at 100, viscosity 500001, density 8700: refused 21",
+        "constant at 100, viscosity 500001, density 8700: refused 21",
         constant_refused(Temperature::At100, 500_001, 8_700, 21),
     )?;
     told(
         rt,
-        b"constant at 40, viscosity 9500, density 4999: refused 22",
+        "constant at 40, viscosity 9500, density 4999: refused 22",
         constant_refused(Temperature::At40, 9_500, 4_999, 22),
     )?;
     told(
         rt,
-        b"constant at 40, viscosity 9500, density 15001: refused 22",
+        "constant at 40, viscosity 9500, density 15001: refused 22",
         constant_refused(Temperature::At40, 9_500, 15_001, 22),
     )?;
     told(
         rt,
-        b"constant at 40, viscosity 5500, density 4999: refused 21",
+        "constant at 40, viscosity 5500, density 4999: refused 21",
         constant_refused(Temperature::At40, 5_500, 4_999, 21),
     )?;
     Ok(())

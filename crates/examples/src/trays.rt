@@ -76,68 +76,62 @@ fn counts(tray: &[u32; TRAY_SIZE], a: u32, settled: u32, near: u32) -> bool {
 
 // Puts oil (1000000000, 2000) in under the numbers from 0 to 63.
 fn fill(tray: &mut [u32; TRAY_SIZE]) {
-    let mut i: u32 = 0;
-    while i < 64 {
-        tray::put(tray, i, 1_000_000_000, 2_000);
-        i += 1;
+    for number in 0..64 {
+        tray::put(tray, number, 1_000_000_000, 2_000);
     }
 }
 
 fn three_samples(rt: &impl Print, tray: &mut [u32; TRAY_SIZE]) -> io::Result<()> {
-    told(rt, b"a tray of zeros: empty", empty(tray))?;
+    told(rt, "a tray of zeros: empty", empty(tray))?;
     told(
         rt,
-        b"put 12 (73300, 8860): A 92",
+        "put 12 (73300, 8860): A 92",
         put_by_a(tray, 12, 73_300, 8_860, 92),
     )?;
     told(
         rt,
-        b"put 7 (22830, 5050): B 156",
+        "put 7 (22830, 5050): B 156",
         put_by_b(tray, 7, 22_830, 5_050, 156),
     )?;
     told(
         rt,
-        b"put 200 (144936, 16776): B 125",
+        "put 200 (144936, 16776): B 125",
         put_by_b(tray, 200, 144_936, 16_776, 125),
     )?;
     told(
         rt,
-        b"the tray: from 92 to 156, sum 373",
+        "the tray: from 92 to 156, sum 373",
         holds(tray, 92, 156, 373),
     )?;
     told(
         rt,
-        b"the tray: A 1, B settled 1, B near 1",
+        "the tray: A 1, B settled 1, B near 1",
         counts(tray, 1, 1, 1),
     )?;
     told(
         rt,
-        b"put 12 (53470, 7080): refused 31",
+        "put 12 (53470, 7080): refused 31",
         put_refused(tray, 12, 53_470, 7_080, 31),
     )?;
     told(
         rt,
-        b"put 12 (20000, 1999): refused 1",
+        "put 12 (20000, 1999): refused 1",
         put_refused(tray, 12, 20_000, 1_999, 1),
     )?;
-    told(rt, b"take 7: (22830, 5050)", taken(tray, 7, 22_830, 5_050))?;
-    told(rt, b"take 7: refused 33", take_refused(tray, 7, 33))?;
+    told(rt, "take 7: (22830, 5050)", taken(tray, 7, 22_830, 5_050))?;
+    told(rt, "take 7: refused 33", take_refused(tray, 7, 33))?;
     told(
         rt,
-        b"the tray: from 92 to 125, sum 217",
+        "the tray: from 92 to 125, sum 217",
         holds(tray, 92, 125, 217),
     )?;
+    told(rt, "take 12: (73300, 8860)", taken(tray, 12, 73_300, 8_860))?;
     told(
         rt,
-        b"take 12: (73300, 8860)",
-        taken(tray, 12, 73_300, 8_860),
-    )?;
-    told(
-        rt,
-        b"take 200: (144936, 16776)",
+        "take 200: (144936, 16776)",
         taken(tray, 200, 144_936, 16_776),
     )?;
-    told(rt, b"the tray: empty", empty(tray))?;
+    told(rt, "the tray: empty", empty(tray))?;
     Ok(())
 }
 
@@ -145,42 +139,42 @@ fn full_tray(rt: &impl Print, tray: &mut [u32; TRAY_SIZE]) -> io::Result<()> {
     fill(tray);
     told(
         rt,
-        b"64 put in: A 64, B settled 0, B near 0",
+        "64 put in: A 64, B settled 0, B near 0",
         counts(tray, 64, 0, 0),
     )?;
     told(
         rt,
-        b"64 of -62499500: sum -3999968000",
+        "64 of -62499500: sum -3999968000",
         holds(tray, -62_499_500, -62_499_500, -3_999_968_000),
     )?;
     told(
         rt,
-        b"put 64 (73300, 8860): refused 32",
+        "put 64 (73300, 8860): refused 32",
         put_refused(tray, 64, 73_300, 8_860, 32),
     )?;
     told(
         rt,
-        b"put 63 (73300, 8860): refused 31",
+        "put 63 (73300, 8860): refused 31",
         put_refused(tray, 63, 73_300, 8_860, 31),
     )?;
     told(
         rt,
-        b"put 64 (2000, 2000): refused 4",
+        "put 64 (2000, 2000): refused 4",
         put_refused(tray, 64, 2_000, 2_000, 4),
     )?;
     told(
         rt,
-        b"take 63: (1000000000, 2000)",
+        "take 63: (1000000000, 2000)",
         taken(tray, 63, 1_000_000_000, 2_000),
     )?;
     told(
         rt,
-        b"put 64 (73300, 8860): A 92",
+        "put 64 (73300, 8860): A 92",
         put_by_a(tray, 64, 73_300, 8_860, 92),
     )?;
     told(
         rt,
-        b"the tray: from -62499500 to 92, sum -3937468408",
+        "the tray: from -62499500 to 92, sum -3937468408",
         holds(tray, -62_499_500, 92, -3_937_468_408),
     )?;
     Ok(())
@@ -190,77 +184,77 @@ fn full_tray(rt: &impl Print, tray: &mut [u32; TRAY_SIZE]) -> io::Result<()> {
 fn wide_numbers(rt: &impl Print, tray: &mut [u32; TRAY_SIZE]) -> io::Result<()> {
     told(
         rt,
-        b"put 1 (73300, 8860): A 92",
+        "put 1 (73300, 8860): A 92",
         put_by_a(tray, 1, 73_300, 8_860, 92),
     )?;
     told(
         rt,
-        b"put 257 (22830, 5050): B 156",
+        "put 257 (22830, 5050): B 156",
         put_by_b(tray, 257, 22_830, 5_050, 156),
     )?;
     told(
         rt,
-        b"put 65537 (53470, 7080): A 87",
+        "put 65537 (53470, 7080): A 87",
         put_by_a(tray, 65_537, 53_470, 7_080, 87),
     )?;
     told(
         rt,
-        b"put 16777217 (28490, 5000): A 100",
+        "put 16777217 (28490, 5000): A 100",
         put_by_a(tray, 16_777_217, 28_490, 5_000, 100),
     )?;
     told(
         rt,
-        b"put 0 (53470, 7800): B 111",
+        "put 0 (53470, 7800): B 111",
         put_by_b(tray, 0, 53_470, 7_800, 111),
     )?;
     told(
         rt,
-        b"put 4294967295 (144936, 16776): B 125",
+        "put 4294967295 (144936, 16776): B 125",
         put_by_b(tray, 4_294_967_295, 144_936, 16_776, 125),
     )?;
     told(
         rt,
-        b"put 4294967295 (73300, 8860): refused 31",
+        "put 4294967295 (73300, 8860): refused 31",
         put_refused(tray, 4_294_967_295, 73_300, 8_860, 31),
     )?;
     told(
         rt,
-        b"the tray: from 87 to 156, sum 671",
+        "the tray: from 87 to 156, sum 671",
         holds(tray, 87, 156, 671),
     )?;
     Ok(())
 }
 
 fn wide_numbers_taken(rt: &impl Print, tray: &mut [u32; TRAY_SIZE]) -> io::Result<()> {
-    told(rt, b"take 255: refused 33", take_refused(tray, 255, 33))?;
+    told(rt, "take 255: refused 33", take_refused(tray, 255, 33))?;
     told(
         rt,
-        b"take 65537: (53470, 7080)",
+        "take 65537: (53470, 7080)",
         taken(tray, 65_537, 53_470, 7_080),
     )?;
     told(
         rt,
-        b"take 257: (22830, 5050)",
+        "take 257: (22830, 5050)",
         taken(tray, 257, 22_830, 5_050),
     )?;
-    told(rt, b"take 1: (73300, 8860)", taken(tray, 1, 73_300, 8_860))?;
+    told(rt, "take 1: (73300, 8860)", taken(tray, 1, 73_300, 8_860))?;
     told(
         rt,
-        b"take 16777217: (28490, 5000)",
+        "take 16777217: (28490, 5000)",
         taken(tray, 16_777_217, 28_490, 5_000),
     )?;
     told(
         rt,
-        b"take 4294967295: (144936, 16776)",
+        "take 4294967295: (144936, 16776)",
         taken(tray, 4_294_967_295, 144_936, 16_776),
     )?;
     told(
         rt,
-        b"take 4294967295: refused 33",
+        "take 4294967295: refused 33",
         take_refused(tray, 4_294_967_295, 33),
     )?;
-    told(rt, b"take 0: (53470, 7800)", taken(tray, 0, 53_470, 7_800))?;
-    told(rt, b"the tray: empty", empty(tray))?;
+    told(rt, "take 0: (53470, 7800)", taken(tray, 0, 53_470, 7_800))?;
+    told(rt, "the tray: empty", empty(tray))?;
     Ok(())
 }
 
