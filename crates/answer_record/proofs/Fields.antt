@@ -8,8 +8,7 @@ use lib.ListN.{get_or, drop}
 use lib.Seq.{get_or-take, get_or-drop}
 use mir.Syntax.{w32}
 use mir.Val.{SFits}
-use Rattle.index.specs.declared.answer.Answer.{Answer}
-use Rattle.index.specs.Answer.{number_of, method_of, index_of, lower_of, upper_of}
+use Rattle.index.specs.Answer.{Answer, number_of, method_of, index_of, lower_of, upper_of}
 use Rattle.index.proofs.Fits.{Fits}
 use Rattle.laws.specs.Bits.{span32}
 use Rattle.answer_record.specs.Bytes.{number_size, number_at, bytes_of, signed_of}

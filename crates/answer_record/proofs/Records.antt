@@ -1,9 +1,9 @@
 -- One record: its length, and one that is all of a lent list.
+use Rattle.index.specs.Answer.{Answer}
 use Prim.Native.Nat.{ℕ}
 use mathlib.Core.Path.{◌≡◌, refl, sym, ◌∙◌}
 use mathlib.Core.List.{List}
 use lib.ListN.{length}
-use Rattle.index.specs.declared.answer.Answer.{Answer}
 use Rattle.answer_record.specs.Bytes.{bytes_of, stored}
 use Rattle.answer_record.specs.Record.{result_size, head_of, laid_out_bytes, record_of}
 use Rattle.answer_record.proofs.Stores.{stored_whole}

@@ -1,8 +1,7 @@
 -- Document 01, 'A sheet': "A result is 16 bytes: byte 0 the pair's number (0 answered); byte 1 the method (0 refused, 1 A, 2 B settled,
 -- 3 B near); bytes 2 and 3 zero; 4 to 7 the index, two's complement; 8 to 11 p; 12 to 15 P. What does not apply is zero."
 use Rattle.std.specs.Prelude.{ℕ, ◌+◌, ◌≡◌, List, [], ◌∷◌, ◌++◌, ℤ, get_or, take, drop}
-use Rattle.index.specs.declared.answer.Answer.{Answer}
-use Rattle.index.specs.Answer.{number_of, method_of, index_of, lower_of, upper_of, RightAnswer}
+use Rattle.index.specs.Answer.{Answer, number_of, method_of, index_of, lower_of, upper_of, RightAnswer}
 use Rattle.index.specs.ChosenAnswer.{answer_of}
 use Rattle.answer_record.specs.declared.store.Record.{Record}
 use Rattle.answer_record.specs.Bytes.{number_at, bytes_of, twos_complement, signed_of}

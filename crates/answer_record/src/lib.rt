@@ -21,9 +21,9 @@ pub fn write_result(results: &mut [u8], i: usize, answer: Answer)
     ensures { results.new ≡ stored results.old (result_size * i) (record_of answer) }
 {
     let at = RESULT_SIZE * i;
-    let Answer::Refused(number) = answer else {
+    let Err(refusal) = answer else {
         store_record(results, at, Record::from(answer));
         return;
     };
-    store_record(results, at, Record::refused(number));
+    store_record(results, at, Record::refused(u8::from(refusal)));
 }

@@ -5,7 +5,8 @@ ghost use Rattle.answer_record.specs.Record.{result_size, refused_fields, fields
 
 use crate::bytes::{store_number, twos_complement};
 use crate::layout::*;
-use index::answer::{ANSWERED, Answer, METHOD_A, METHOD_REFUSED, method_of};
+use index::answer::{ANSWERED, METHOD_A, METHOD_REFUSED, method_of};
+use index::{Answer, Index};
 
 // The fields: the pair's number, the method, the index as the 32-bit number that a record has, p and P. What does not apply is zero. The number and
 // the method stay numbers: they are the bytes that document 01 lays out.
@@ -45,13 +46,13 @@ impl From<Answer> for Record {
 
     fn from(answer: Answer) -> Record {
         match answer {
-            Answer::Refused(number) => Record::refused(number),
-            Answer::A(index) => Record {
+            Err(refusal) => Record::refused(u8::from(refusal)),
+            Ok(Index::A(index)) => Record {
                 method: METHOD_A,
                 index: twos_complement(index),
                 ..Record::ZEROS
             },
-            Answer::B(b) => Record {
+            Ok(Index::B(b)) => Record {
                 method: method_of(answer),
                 index: b.index,
                 lower: b.lower,

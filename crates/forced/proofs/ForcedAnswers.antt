@@ -22,47 +22,50 @@ use Rattle.logarithm.specs.Fractions.{Q}
 use Rattle.shown_index.specs.Terms.{c}
 use Rattle.shown_index.specs.ChosenIndex.{shows_least, shows_most}
 use Rattle.shown_index.proofs.Shows.{least_shows, most_shows}
-use Rattle.index.specs.declared.answer.Answer.{Answer}
-use Rattle.index.specs.declared.answer.Answer.TheVariants.{Refused, A, B}
+use Rattle.std.specs.Prelude.{Ok, Err}
+use Rattle.reference.specs.declared.refusal.Refusal.TheVariants.{ThinAt100}
+use Rattle.reference.specs.Refusal.{number_of_refusal}
+use Rattle.index.proofs.Determined.{same_refusal}
+use Rattle.index.specs.declared.answer.Index.TheVariants.{A, B}
 use Rattle.index.specs.Questions.{refusal}
 use Rattle.index.specs.ProcedureA.{rounded_a, index_a}
 use Rattle.index.specs.ProcedureB.{AtLeast, AtMost, SettledAt, NearAt, Marked}
-use Rattle.index.specs.Answer.{method_of_mark, method_of, index_of, lower_of, upper_of, RightAnswer}
+use Rattle.index.specs.Answer.{Answer, method_of_mark, method_of, index_of, lower_of, upper_of, RightAnswer}
 use Rattle.forced.specs.ForcedAnswers.{Forced156, ForcedNear125, ForcedAnswers}
 use Rattle.logarithm.proofs.Log2.{enclosed}
 use Rattle.forced.proofs.Fractions.{Numbers, lower_most, upper_least, bounds}
 
 -- ---- by A, and refused
 
-only_a : (u y : ℕ) (i : ℤ) → refusal u y ≡ 0 → h_at y ≤ in_units u → index_a u y ≡ i → (a : Answer) → RightAnswer u y a → a ≡ A i
-only_a u y i q h e (Refused n) r = not_some n (r.number ∙ q) r.case
-only_a u y i q h e (A x) r = ap A (r.case.1 ∙ e)
-only_a u y i q h e (B b) r = let below : in_units u < h_at y = r.case.below in absurd (omega arith)
+only_a : (u y : ℕ) (i : ℤ) → refusal u y ≡ 0 → h_at y ≤ in_units u → index_a u y ≡ i → (a : Answer) → RightAnswer u y a → a ≡ Ok (A i)
+only_a u y i q h e (Err n) r = not_some (number_of_refusal n) (r.number ∙ q) r.case
+only_a u y i q h e (Ok (A x)) r = ap (λ (k : ℤ). Ok (A k)) (r.case.1 ∙ e)
+only_a u y i q h e (Ok (B b)) r = let below : in_units u < h_at y = r.case.below in absurd (omega arith)
 
-by_a : (a : Answer) → RightAnswer 73300 8860 a → a ≡ A (pos 92)
+by_a : (a : Answer) → RightAnswer 73300 8860 a → a ≡ Ok (A (pos 92))
 unfolding index_a rounded_a l_at h_at at_place entry table1
 by_a = only_a 73300 8860 (pos 92) refl (lit≤ tt) refl
 
-at_h : (a : Answer) → RightAnswer 28490 5000 a → a ≡ A (pos 100)
+at_h : (a : Answer) → RightAnswer 28490 5000 a → a ≡ Ok (A (pos 100))
 unfolding index_a rounded_a l_at h_at at_place entry table1
 at_h = only_a 28490 5000 (pos 100) refl (lit≤ tt) refl
 
-half : (a : Answer) → RightAnswer 7986 2000 a → a ≡ A (pos 1)
+half : (a : Answer) → RightAnswer 7986 2000 a → a ≡ Ok (A (pos 1))
 unfolding index_a rounded_a l_at h_at at_place entry table1
 half = only_a 7986 2000 (pos 1) refl (lit≤ tt) refl
 
-negative_half : (a : Answer) → RightAnswer 8018 2000 a → a ≡ A (negsuc 0)
+negative_half : (a : Answer) → RightAnswer 8018 2000 a → a ≡ Ok (A (negsuc 0))
 unfolding index_a rounded_a l_at h_at at_place entry table1
 negative_half = only_a 8018 2000 (negsuc 0) refl (lit≤ tt) refl
 
-thickest : (a : Answer) → RightAnswer 1000000000 2000 a → a ≡ A (negsuc 62499499)
+thickest : (a : Answer) → RightAnswer 1000000000 2000 a → a ≡ Ok (A (negsuc 62499499))
 unfolding index_a rounded_a l_at h_at at_place entry table1
 thickest = only_a 1000000000 2000 (negsuc 62499499) refl (lit≤ tt) refl
 
-only_refused : (a : Answer) → RightAnswer 20000 1999 a → a ≡ Refused 1
-only_refused (Refused n) r = ap Refused r.number
-only_refused (A i) r = impossible r.number
-only_refused (B b) r = impossible r.number
+only_refused : (a : Answer) → RightAnswer 20000 1999 a → a ≡ Err ThinAt100
+only_refused (Err n) r = ap Err (same_refusal n ThinAt100 r.number)
+only_refused (Ok (A i)) r = impossible r.number
+only_refused (Ok (B b)) r = impossible r.number
 
 -- ---- by B
 
@@ -72,10 +75,10 @@ exponents a b h = exponents_le 10 a b (omega arith) (le_of_mul-le-mul_right {k =
 
 -- a right answer to a pair below H is by B
 by_mark : (P : Answer → Type 0) (u y : ℕ) → refusal u y ≡ 0 → in_units u < h_at y
-    → ((b : ByB) → Marked b.mark u y b.index b.lower b.upper → P (B b)) → (a : Answer) → RightAnswer u y a → P a
-by_mark P u y q l f (Refused n) r = not_some n (r.number ∙ q) r.case
-by_mark P u y q l f (A i) r = let h : h_at y ≤ in_units u = r.case.0 in absurd (omega arith)
-by_mark P u y q l f (B b) r = f b r.case.marked
+    → ((b : ByB) → Marked b.mark u y b.index b.lower b.upper → P (Ok (B b))) → (a : Answer) → RightAnswer u y a → P a
+by_mark P u y q l f (Err n) r = not_some (number_of_refusal n) (r.number ∙ q) r.case
+by_mark P u y q l f (Ok (A i)) r = let h : h_at y ≤ in_units u = r.case.0 in absurd (omega arith)
+by_mark P u y q l f (Ok (B b)) r = f b r.case.marked
 
 -- ---- (22830, 5050): Q·N lies between 2,469,440 and 2,469,441, which stand for an index from 156.42 to 156.43
 

@@ -1,8 +1,9 @@
 -- What a sheet's records are forced to be: from `RightRecords` alone, that each record is that of a right answer to its own pair, which is what the first
 -- sentence of demand 3 says but for the words "when asked alone". So the substitutes of the buyer's note are refuted by the definitions, and not only by the
 -- proof of one program. proofs/Forced.antt shows it.
-use Rattle.std.specs.Prelude.{ℕ, ◌<◌, ◌≡◌, List, ◌++◌, pos, length}
-use Rattle.index.specs.declared.answer.Answer.TheVariants.{Refused, A}
+use Rattle.std.specs.Prelude.{ℕ, ◌<◌, ◌≡◌, List, ◌++◌, pos, length, Ok, Err}
+use Rattle.reference.specs.declared.refusal.Refusal.TheVariants.{ThinAt100}
+use Rattle.index.specs.declared.answer.Index.TheVariants.{A}
 use Rattle.answer_record.specs.Bytes.{bytes_of}
 use Rattle.answer_record.specs.Record.{record_of}
 use Rattle.sheet.specs.Sheet.{sheet_refusal}
@@ -19,7 +20,7 @@ pub record PairIs (before after : List ℕ) (i v w : ℕ) : Type 0 where
 pub record Forced (before after : List ℕ) : Type 0 where
   -- Wherever (73300, 8860) stands, its 16 bytes are the record of A 92, whatever stood there before. This refutes "gives 100 to all", "refuses all" and
   -- "leaves the result block as found"
-  pub by_a : (i : ℕ) → PairIs before after i 73300 8860 → bytes before after i ≡ record_of (A (pos 92))
+  pub by_a : (i : ℕ) → PairIs before after i 73300 8860 → bytes before after i ≡ record_of (Ok (A (pos 92)))
   -- Wherever (22830, 5050) stands, its record is settled and not near, its index is 156, and its own p and P satisfy the four inequalities. This refutes
   -- "marks every pair near", "writes invented fractions" and, again, "gives 100 to all". With `by_a` it refutes "works the first record and copies it
   -- down": the two pairs have different methods, whichever stands first
@@ -29,7 +30,7 @@ pub record Forced (before after : List ℕ) : Type 0 where
   pub near : (i : ℕ) → PairIs before after i 144936 16776
       → ForcedNear125 (method before after i) (index before after i) (lower before after i) (upper before after i)
   -- Wherever (20000, 1999) stands, its 16 bytes are the record of a refusal by 1: a refused pair has its record too
-  pub refused : (i : ℕ) → PairIs before after i 20000 1999 → bytes before after i ≡ record_of (Refused 1)
+  pub refused : (i : ℕ) → PairIs before after i 20000 1999 → bytes before after i ≡ record_of (Err ThinAt100)
 
 -- a sheet of these four pairs, the refused one first, with what was found in its result block
 abbrev pub four_pairs : List ℕ → List ℕ

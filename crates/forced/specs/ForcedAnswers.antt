@@ -1,11 +1,11 @@
 -- What the definitions force of a pair: the answers to pairs of document 01, from `RightAnswer` alone, and to one that is near. A program that answers
 -- otherwise is refuted, whatever proof is offered for it. proofs/ForcedAnswers.antt shows it. Forced.antt says what it means for a sheet.
-use Rattle.std.specs.Prelude.{ℕ, ◌≤◌, ◌≡◌, ℤ, pos, negsuc}
+use Rattle.std.specs.Prelude.{ℕ, ◌≤◌, ◌≡◌, ℤ, pos, negsuc, Ok, Err}
 use Rattle.shown_index.specs.declared.Mark.TheVariants as mark
-use Rattle.index.specs.declared.answer.Answer.{Answer}
-use Rattle.index.specs.declared.answer.Answer.TheVariants.{Refused, A}
+use Rattle.reference.specs.declared.refusal.Refusal.TheVariants.{ThinAt100}
+use Rattle.index.specs.declared.answer.Index.TheVariants.{A}
 use Rattle.index.specs.ProcedureB.{SettledAt, NearAt}
-use Rattle.index.specs.Answer.{method_of_mark, method_of, index_of, lower_of, upper_of, RightAnswer}
+use Rattle.index.specs.Answer.{Answer, method_of_mark, method_of, index_of, lower_of, upper_of, RightAnswer}
 
 -- what is forced of (22830, 5050), an oil below H: the method and the index; and of p and P, which document 01 leaves free, that the powers of both show
 -- the index, and between which numbers they lie
@@ -28,17 +28,17 @@ pub record ForcedNear125 (method : ℕ) (index : ℤ) (p P : ℕ) : Type 0 where
 
 pub record ForcedAnswers : Type 0 where
   -- "(73300, 8860): A 92."
-  pub by_a : (a : Answer) → RightAnswer 73300 8860 a → a ≡ A (pos 92)
+  pub by_a : (a : Answer) → RightAnswer 73300 8860 a → a ≡ Ok (A (pos 92))
   -- "(28490, 5000): A 100." U is H
-  pub at_h : (a : Answer) → RightAnswer 28490 5000 a → a ≡ A (pos 100)
+  pub at_h : (a : Answer) → RightAnswer 28490 5000 a → a ≡ Ok (A (pos 100))
   -- "(7986, 2000): exactly 0.5, A 1." and "(8018, 2000): −1.5, A −1."
-  pub half : (a : Answer) → RightAnswer 7986 2000 a → a ≡ A (pos 1)
-  pub negative_half : (a : Answer) → RightAnswer 8018 2000 a → a ≡ A (negsuc 0)
+  pub half : (a : Answer) → RightAnswer 7986 2000 a → a ≡ Ok (A (pos 1))
+  pub negative_half : (a : Answer) → RightAnswer 8018 2000 a → a ≡ Ok (A (negsuc 0))
   -- "(1000000000, 2000): A −62,499,500."
-  pub thickest : (a : Answer) → RightAnswer 1000000000 2000 a → a ≡ A (negsuc 62499499)
+  pub thickest : (a : Answer) → RightAnswer 1000000000 2000 a → a ≡ Ok (A (negsuc 62499499))
   -- "22.830 5.050 B 156"
   pub by_b : (a : Answer) → RightAnswer 22830 5050 a → Forced156 (method_of a) (index_of a) (lower_of a) (upper_of a)
   -- (144936, 16776): B~ 125
   pub near : (a : Answer) → RightAnswer 144936 16776 a → ForcedNear125 (method_of a) (index_of a) (lower_of a) (upper_of a)
   -- "20.000 1.999 refused 1"
-  pub refused : (a : Answer) → RightAnswer 20000 1999 a → a ≡ Refused 1
+  pub refused : (a : Answer) → RightAnswer 20000 1999 a → a ≡ Err ThinAt100

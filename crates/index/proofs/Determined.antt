@@ -26,6 +26,10 @@ use Rattle.index.specs.Determined.{BesideTheHalf, AgreeByB, Agree, Determined}
 use Rattle.index.proofs.Consistent.{consistent}
 use Rattle.index.proofs.QuestionOrder.{passes}
 
+-- a number is that of one refusal
+pub same_refusal : (r s : Refusal) → number_of_refusal r ≡ number_of_refusal s → r ≡ s
+same_refusal r s e = sym (numbered_refusals.of_refusal r) ∙ ap refusal_of e ∙ numbered_refusals.of_refusal s
+
 module _ (u y : ℕ) where
   -- what is at least r is at least any lower number, and what is at most r at most any higher one
   lowered : (r s p : ℕ) → s ≤ r → AtLeast u y r p → AtLeast u y s p
@@ -80,10 +84,6 @@ module _ (u y : ℕ) where
 
   not_both : h_at y ≤ in_units u → in_units u < h_at y → ⊥
   not_both h l = omega arith
-
-  -- a number is that of one refusal
-  same_refusal : (r s : Refusal) → number_of_refusal r ≡ number_of_refusal s → r ≡ s
-  same_refusal r s e = sym (numbered_refusals.of_refusal r) ∙ ap refusal_of e ∙ numbered_refusals.of_refusal s
 
   agree : (a b : Answer) → RightAnswer u y a → RightAnswer u y b → Agree u y a b
   agree (Err n) (Err m) r s = same_refusal n m (r.number ∙ sym s.number)

@@ -8,10 +8,12 @@ use Rattle.reference.specs.Basis.{h_at}
 use Rattle.reference.specs.Viscosity.{in_units}
 use Rattle.shown_index.specs.declared.Mark.{Mark}
 use Rattle.shown_index.specs.declared.Mark.TheVariants as mark
-use Rattle.index.specs.declared.answer.Answer.{Answer}
-use Rattle.index.specs.declared.answer.Answer.TheVariants.{Refused, A, B}
+use Rattle.std.specs.Prelude.{Ok, Err}
+use Rattle.laws.proofs.Contradiction.{not_some}
+use Rattle.reference.specs.Refusal.{number_of_refusal}
+use Rattle.index.specs.declared.answer.Index.TheVariants.{A, B}
 use Rattle.index.specs.ProcedureB.{SettledAt, NearAt, Marked}
-use Rattle.index.specs.Answer.{method_of_mark, RightAnswer}
+use Rattle.index.specs.Answer.{Answer, method_of_mark, RightAnswer}
 use Rattle.index.proofs.Right.{right}
 use Rattle.index.proofs.Fits.{right_fits}
 use Rattle.index.proofs.Order.{in_order}
@@ -28,14 +30,11 @@ by_mark mark.Near u y k p P h = inr (refl, h)
 -- the record of a right answer to an oil below H: the answer is by B, and its mark is true of its index
 shown : (before after : List ℕ) (i : ℕ) (a : Answer) → FieldsRead after (offset before after i) a
     → RightAnswer (u before after i) (y before after i) a → Answered before after i → BelowH before after i → Shown before after i
-shown before after i (Refused number) f r q h =
-    let zero : number ≡ 0 = r.number ∙ q in
-    let some : 0 < number = r.case in
-    absurd (omega arith)
-shown before after i (A index) f r q h =
+shown before after i (Err refusal) f r q h = not_some (number_of_refusal refusal) (r.number ∙ q) r.case
+shown before after i (Ok (A index)) f r q h =
     let above : h_at (y before after i) ≤ in_units (u before after i) = r.case.0 in
     absurd (omega arith)
-shown before after i (B b) f r q h =
+shown before after i (Ok (B b)) f r q h =
     record { k = b.index; index_is = f.index; marked = rw (f.method, f.lower, f.upper) (by_mark b.mark _ _ _ _ _ r.case.marked) }
 
 -- that each record is a right answer's gives the second and the third sentence of demand 3: a right answer fits its fields, so that the record's own bytes

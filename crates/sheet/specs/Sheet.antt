@@ -1,6 +1,6 @@
 -- Document 01, 'A sheet': the header, the questions to a sheet, the answer to it, and the whole sheet afterwards.
+use Rattle.index.specs.Answer.{Answer}
 use Rattle.std.specs.Prelude.{ℕ, zero, suc, ◌+◌, ◌*◌, Bool, true, false, cond, ◌&&◌, ◌||◌, List, [], ◌++◌, leb, eqb, length, take, drop, Result, Ok, Err}
-use Rattle.index.specs.declared.answer.Answer.{Answer}
 use Rattle.index.specs.ChosenAnswer.{answer_of}
 use Rattle.answer_record.specs.Bytes.{number_at}
 use Rattle.answer_record.specs.Record.{result_size, record_of}

@@ -4,9 +4,8 @@ use mathlib.Core.Path.{◌≡◌, refl}
 use lib.IntN.{ℤ, pos}
 use Rattle.shown_index.specs.declared.Mark.{Mark}
 use Rattle.shown_index.specs.declared.Mark.TheVariants as mark
-use Rattle.index.specs.declared.answer.Answer.{Answer}
-use Rattle.index.specs.declared.answer.Answer.TheVariants.{Refused, A, B}
-use Rattle.index.specs.Answer.{number_of, method_of_mark, method_of, index_of}
+use Rattle.index.specs.declared.answer.Index.TheVariants.{A, B}
+use Rattle.index.specs.Answer.{Answer, number_of, method_of_mark, method_of, index_of}
 use Rattle.text_fields.specs.Fields.{ascii, decimal, signed_decimal, worded}
 use Rattle.text_lines.specs.Lines.{procedure_b, outcome}
 use Rattle.text_lines.specs.FromRecord.{outcome_by}

@@ -1,10 +1,10 @@
 -- Document 01, 'The printing program': the lines that it shows "For the pairs (73300, 8860), (22830, 5050), (20000, 1999)", and one of each
 -- other kind, as the definitions give them. proofs/Examples.antt shows it by computation.
+use Rattle.index.specs.Answer.{Answer}
 use Rattle.std.specs.Prelude.{ℕ, ◌≡◌, List, pos, negsuc}
 use Rattle.shown_index.specs.declared.Mark.{Mark}
 use Rattle.shown_index.specs.declared.Mark.TheVariants.{Settled, Near}
-use Rattle.index.specs.declared.answer.Answer.{Answer}
-use Rattle.index.specs.declared.answer.Answer.TheVariants.{Refused, A, B}
+use Rattle.index.specs.declared.answer.Index.TheVariants.{A, B}
 use Rattle.text_fields.specs.Fields.{ascii}
 use Rattle.text_lines.specs.Lines.{outcome, printed_line, first_line, refused_line}
 

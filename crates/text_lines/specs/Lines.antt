@@ -1,9 +1,9 @@
 -- Document 01, 'The printing program': the lines of a sheet's text, each as the list of its bytes.
+use Rattle.index.specs.Answer.{Answer}
 use Rattle.std.specs.Prelude.{ℕ, List, ◌++◌}
 use Rattle.shown_index.specs.declared.Mark.{Mark}
 use Rattle.shown_index.specs.declared.Mark.TheVariants as mark
-use Rattle.index.specs.declared.answer.Answer.{Answer}
-use Rattle.index.specs.declared.answer.Answer.TheVariants as answer
+use Rattle.index.specs.declared.answer.Index.TheVariants as answer
 use Rattle.text_fields.specs.Fields.{ascii, space, line_end, decimal, viscosity, signed_decimal, worded}
 
 -- ""pairs" and n"
