@@ -1,14 +1,16 @@
 -- The places of a tray after a store in one of them.
 use Prim.Native.Nat.{ℕ, ◌+◌, ◌*◌, ◌≤◌, ◌<◌}
-use mathlib.Core.Path.{◌≡◌, refl, ap, ◌∙◌}
+use mathlib.Core.Path.{◌≡◌, refl, sym, ap, ◌∙◌}
 use mathlib.Core.Bool.{true, false}
 use mathlib.Core.List.{List, ◌++◌}
 use mathlib.Core.Logic.{◌⊎◌, inl, inr, ⊎_elim}
 use native.Mathlib.Nat.{add-zero}
 use native.Mathlib.Omega.{arith}
 use borrow.Author.Tests.{ne_eqb}
+use borrow.Rule.Slice.PartMut.{put_mid}
 use lib.ListN.{length, get_or, take, drop, get_or-append}
 use lib.Seq.{get_or-append-add, length-take-le}
+use Rattle.std.proofs.lemmas.List.{drop-drop}
 use Rattle.answer_record.specs.Bytes.{stored}
 use Rattle.answer_record.proofs.Stores.{stored_parts, byte_kept}
 use Rattle.tray_places.specs.declared.samples.Place.{Place}
@@ -53,6 +55,14 @@ stored_number l vs i j h k =
 pub length_numbers : (p : Place) → length (numbers_of p) ≡ place_size
 unfolding numbers_of
 length_numbers p = refl
+
+-- as the code stores them, n numbers from `at` on
+pub numbers_stored : (p : Place) (l : List ℕ) (at : ℕ) {n : ℕ} {vs : List ℕ} → at + place_size ≤ length l → n ≡ place_size → vs ≡ numbers_of p
+    → put_mid at n l vs ≡ stored l at (numbers_of p)
+numbers_stored p l at {n} {vs} h k e =
+    let long : length (numbers_of p) ≡ n = length_numbers p ∙ sym k in
+    let rest : drop n (drop at l) ≡ drop (at + n) l = drop-drop n at l in
+    rw (e, rest, ← long) (sym (stored_parts l (numbers_of p) at (omega arith)))
 
 module _ (p : Place) (l : List ℕ) (k : ℕ) (fits : place_size * k + place_size ≤ length l) where
   abbrev after : List ℕ

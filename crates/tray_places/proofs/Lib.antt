@@ -1,5 +1,6 @@
 -- The laws of the places.
 pub mod First
+pub mod Searches
 pub mod Held
 pub mod Kept
 pub mod Found

@@ -1,7 +1,8 @@
 -- Change request #102: "A tray holds up to 64 samples". A tray is the list of its numbers: 64 places of eight, and of a place the first number is 0 where
 -- it is free. Memory of zeros is the empty tray. The request says nothing of places: this layout is the program's choice, and `EveryTray`, at the end, says what
 -- holds of it.
-use Rattle.std.specs.Prelude.{ℕ, zero, suc, ◌+◌, ◌*◌, ◌≤◌, ◌<◌, ◌≡◌, Bool, true, false, cond, not, ◌&&◌, List, [], ◌∷◌, ◌++◌, eqb, ltb, length, get_or, replicate}
+use Rattle.std.specs.Prelude.{ℕ, zero, suc, ◌+◌, ◌*◌, ◌≤◌, ◌<◌, ◌≡◌, Bool, true, false, cond, not, ◌&&◌, List, [], ◌∷◌, ◌++◌, eqb, ltb, length, get_or, replicate, Option, Some, None}
+use Rattle.std.specs.Simd.{first_chunks}
 use Rattle.index.specs.Questions.{refusal}
 use Rattle.index.specs.ChosenAnswer.{answer_of}
 use Rattle.answer_record.specs.Bytes.{stored}
@@ -31,6 +32,10 @@ numbers_of p = p.method ∷ p.number ∷ p.u ∷ p.y ∷ p.index ∷ p.lower ∷
 -- what is stored to free a place: its other numbers stay
 unfoldable pub freed : List ℕ
 freed = 0 ∷ []
+
+-- the places of a tray, each as the list of its eight numbers; what is said below of place i of a tray is said of place 0 of such a list
+unfoldable pub places_in : List ℕ → List (List ℕ)
+places_in tray = first_chunks place_size places tray
 
 -- the method in place i, and the number
 abbrev pub method_in : List ℕ → ℕ → ℕ
@@ -80,6 +85,10 @@ place_of_number tray number = first (is_held_as tray number) places
 
 unfoldable pub free_place : List ℕ → ℕ
 free_place tray = first (is_free tray) places
+
+-- what a search for a place answers: the place, if it is one of the 64
+abbrev pub found : ℕ → Option ℕ
+found i = cond (ltb i places) (Some i) None
 
 -- the samples of the held places among the first n, and those that a tray holds
 unfoldable pub among : (ℕ → Bool) → (ℕ → Sample) → ℕ → List Sample

@@ -5,20 +5,22 @@
 
 mod samples;
 
-ghost use Rattle.std.specs.Prelude.{◌≡◌, [], ◌∷◌, ◌+◌, ◌*◌, ◌≤◌, length};
+ghost use Rattle.std.specs.Prelude.{◌≡◌, ◌+◌, ◌*◌, ◌≤◌, length};
 ghost use Rattle.answer_record.specs.Bytes.{stored};
-ghost use Rattle.tray_places.specs.Places.{place_size, tray_size, numbers_of, freed, place_at, is_free, has_number, is_held_as, place_of_number, free_place};
+ghost use Rattle.tray_places.specs.Places.{place_size, numbers_of, freed, places_in, place_at, is_free, is_held_as, found, place_of_number, free_place};
 
-pub use samples::{Place, Sample, answer_from, place_of, sample_of};
+pub use samples::{Place, Sample};
 
 // How many places a tray has, how many numbers a place, and how many numbers the tray.
 pub const PLACES: usize = 64;
 
 pub const PLACE_SIZE: usize = 8;
 
-pub const TRAY_SIZE: usize = 512;
+pub const TRAY_SIZE: usize = PLACES * PLACE_SIZE;
 
-// Where the numbers of a place stand in it; the method stands first.
+// Where the numbers of a place stand in it.
+const METHOD_AT: usize = 0;
+
 const NUMBER_AT: usize = 1;
 
 const U_AT: usize = 2;
@@ -36,49 +38,56 @@ const FREE: u32 = 0;
 
 const SPARE: u32 = 0;
 
-// The numbers of place i. An inner function, for callers that know the place to be there; so are the others here.
-pub fn place_at(tray: &[u32], i: usize) -> Place
-    requires { place_size * i + place_size ≤ length tray.now }
-    ensures { result ≡ place_at tray.now i }
+// The places of a tray, each as its eight numbers.
+pub fn places_in(tray: &[u32; TRAY_SIZE]) -> &[[u32; PLACE_SIZE]]
+    ensures { result.now ≡ places_in tray.now }
 {
-    let at = PLACE_SIZE * i;
-    Place {
-        method: tray[at],
-        number: tray[at + NUMBER_AT],
-        u: tray[at + U_AT],
-        y: tray[at + Y_AT],
-        index: tray[at + INDEX_AT],
-        lower: tray[at + LOWER_AT],
-        upper: tray[at + UPPER_AT],
+    tray.as_chunks::<PLACE_SIZE>().0
+}
+
+// What eight numbers hold as a place.
+impl From<&[u32; PLACE_SIZE]> for Place {
+    ghost from_gives = { λ numbers place. place ≡ place_at numbers.now 0 };
+
+    fn from(numbers: &[u32; PLACE_SIZE]) -> Place {
+        Place {
+            method: numbers[METHOD_AT],
+            number: numbers[NUMBER_AT],
+            u: numbers[U_AT],
+            y: numbers[Y_AT],
+            index: numbers[INDEX_AT],
+            lower: numbers[LOWER_AT],
+            upper: numbers[UPPER_AT],
+        }
     }
 }
 
-// Stores four numbers, half a place, from `at` on.
-fn store_half(tray: &mut [u32], at: usize, n0: u32, n1: u32, n2: u32, n3: u32)
-    requires { at + 4 ≤ length tray.old }
-    ensures { tray.new ≡ stored tray.old at (n0 ∷ n1 ∷ n2 ∷ n3 ∷ []) }
-{
-    tray[at] = n0;
-    tray[at + 1] = n1;
-    tray[at + 2] = n2;
-    tray[at + 3] = n3;
+// The numbers of a place.
+impl From<Place> for [u32; PLACE_SIZE] {
+    ghost from_gives = { λ place numbers. numbers ≡ numbers_of place };
+
+    fn from(place: Place) -> [u32; PLACE_SIZE] {
+        [
+            place.method,
+            place.number,
+            place.u,
+            place.y,
+            place.index,
+            place.lower,
+            place.upper,
+            SPARE,
+        ]
+    }
 }
 
-// Stores the numbers of a place in place i.
+// Stores the numbers of a place in place i. An inner function, for callers that know the place to be there; so is the next.
 pub fn store_place(tray: &mut [u32], i: usize, place: Place)
     requires { place_size * i + place_size ≤ length tray.old }
     ensures { tray.new ≡ stored tray.old (place_size * i) (numbers_of place) }
 {
     let at = PLACE_SIZE * i;
-    store_half(tray, at, place.method, place.number, place.u, place.y);
-    store_half(
-        tray,
-        at + INDEX_AT,
-        place.index,
-        place.lower,
-        place.upper,
-        SPARE,
-    );
+    let numbers = <[u32; PLACE_SIZE]>::from(place);
+    tray[at..at + PLACE_SIZE].copy_from_slice(&numbers);
 }
 
 // Frees place i.
@@ -89,59 +98,32 @@ pub fn free(tray: &mut [u32], i: usize)
     tray[PLACE_SIZE * i] = FREE;
 }
 
-// Is place i free?
-pub fn is_free(tray: &[u32], i: usize) -> bool
-    requires { place_size * i + place_size ≤ length tray.now }
-    ensures { result ≡ is_free tray.now i }
+// Is a place free?
+pub fn is_free(place: &[u32; PLACE_SIZE]) -> bool
+    ensures { result ≡ is_free place.now 0 }
 {
-    tray[PLACE_SIZE * i] == FREE
+    place[METHOD_AT] == FREE
 }
 
-// Is that the number in place i? All 32 bits are compared.
-fn has_number(tray: &[u32], number: u32, i: usize) -> bool
-    requires { place_size * i + place_size ≤ length tray.now }
-    ensures { result ≡ has_number tray.now number i }
+// Is a sample of that number held in a place? All 32 bits are compared.
+fn is_held_as(place: &[u32; PLACE_SIZE], number: u32) -> bool
+    ensures { result ≡ is_held_as place.now number 0 }
 {
-    tray[PLACE_SIZE * i + NUMBER_AT] == number
+    !is_free(place) && place[NUMBER_AT] == number
 }
 
-// Is a sample of that number held in place i?
-fn is_held_as(tray: &[u32], number: u32, i: usize) -> bool
-    requires { place_size * i + place_size ≤ length tray.now }
-    ensures { result ≡ is_held_as tray.now number i }
+// The place of the sample of that number, the first if there are several.
+pub fn place_of_number(tray: &[u32; TRAY_SIZE], number: u32) -> Option<usize>
+    ensures { result ≡ found (place_of_number tray.now number) }
 {
-    if is_free(tray, i) {
-        return false;
-    }
-    has_number(tray, number, i)
+    places_in(tray)
+        .iter()
+        .position(|place| is_held_as(place, number))
 }
 
-// The place of the sample of that number, the first if there are several; PLACES where none is held.
-pub fn place_of_number(tray: &[u32], number: u32) -> usize
-    requires { length tray.now ≡ tray_size }
-    ensures { result ≡ place_of_number tray.now number }
+// The first free place.
+pub fn free_place(tray: &[u32; TRAY_SIZE]) -> Option<usize>
+    ensures { result ≡ found (free_place tray.now) }
 {
-    let mut i: usize = 0;
-    while i < PLACES {
-        if is_held_as(tray, number, i) {
-            return i;
-        }
-        i += 1;
-    }
-    i
-}
-
-// The first free place; PLACES where all are held.
-pub fn free_place(tray: &[u32]) -> usize
-    requires { length tray.now ≡ tray_size }
-    ensures { result ≡ free_place tray.now }
-{
-    let mut i: usize = 0;
-    while i < PLACES {
-        if is_free(tray, i) {
-            return i;
-        }
-        i += 1;
-    }
-    i
+    places_in(tray).iter().position(|place| is_free(place))
 }

@@ -1,10 +1,7 @@
 // A sample as the numbers of a place, and back: the answer by its method, with the index in two's complement.
 ghost use Rattle.std.specs.Prelude.{◌≡◌};
-ghost use Rattle.answer_record.specs.Bytes.{signed_of};
 ghost use Rattle.tray_places.specs.Samples.{mark_from, answer_from, sample_of, place_of};
 
-use answer_record::layout::{FIRST_NEGATIVE, LAST_NEGATIVE};
-use answer_record::twos_complement;
 use index::Answer;
 use index::answer::{METHOD_A, METHOD_B_SETTLED, method_of};
 use shown_index::{ByB, Mark};
@@ -19,7 +16,7 @@ pub struct Sample {
 }
 
 // A sample as a place has it: the method, 0 where the place is free; the number; the pair; the index as 32 bits; p and P.
-#[derive(Clone, Copy)]
+#[derive(Clone, Copy, Debug, PartialEq, Eq)]
 pub struct Place {
     pub method: u32,
     pub number: u32,
@@ -30,92 +27,65 @@ pub struct Place {
     pub upper: u32,
 }
 
-// The number with sign that 32 bits stand for.
-fn signed_of(x: u32) -> i32
-    ensures { result ≡ signed_of x }
-{
-    if x < FIRST_NEGATIVE {
-        return x as i32;
-    }
-    let less = LAST_NEGATIVE - x;
-    -1 - (less as i32)
-}
-
-// The mark under a method of procedure B.
+// The mark under a method of procedure B. The caller lends the memory, and any numbers are some tray: so every method has a reading, and none is refused.
 fn mark_from(method: u32) -> Mark
     ensures { result ≡ mark_from method }
 {
-    if method == METHOD_B_SETTLED as u32 {
+    if method == u32::from(METHOD_B_SETTLED) {
         return Mark::Settled;
     }
     Mark::Near
 }
 
-// The answer that a place says.
-pub fn answer_from(method: u32, index: u32, lower: u32, upper: u32) -> Answer
-    ensures { result ≡ answer_from method index lower upper }
-{
-    if method == METHOD_A as u32 {
-        return Answer::A(signed_of(index));
+impl Place {
+    // The answer that a place says.
+    pub fn answer(self) -> Answer
+        ensures { result ≡ answer_from self.method self.index self.lower self.upper }
+    {
+        if self.method == u32::from(METHOD_A) {
+            return Answer::A(self.index.cast_signed());
+        }
+        Answer::B(ByB {
+            index: self.index,
+            mark: mark_from(self.method),
+            lower: self.lower,
+            upper: self.upper,
+        })
     }
-    let mark = mark_from(method);
-    Answer::B(ByB {
-        index,
-        mark,
-        lower,
-        upper,
-    })
 }
 
 // The sample that a place says.
-pub fn sample_of(place: Place) -> Sample
-    ensures { result ≡ sample_of place }
-{
-    let answer = answer_from(place.method, place.index, place.lower, place.upper);
-    Sample {
-        number: place.number,
-        u: place.u,
-        y: place.y,
-        answer,
+impl From<Place> for Sample {
+    ghost from_gives = { λ place sample. sample ≡ sample_of place };
+
+    fn from(place: Place) -> Sample {
+        Sample {
+            number: place.number,
+            u: place.u,
+            y: place.y,
+            answer: place.answer(),
+        }
     }
 }
 
 // The place that says a sample.
-pub fn place_of(sample: Sample) -> Place
-    ensures { result ≡ place_of sample }
-{
-    let number = sample.number;
-    let u = sample.u;
-    let y = sample.y;
-    let answer = sample.answer;
-    let method = method_of(answer) as u32;
-    match answer {
-        Answer::Refused(_) => Place {
-            method,
-            number,
-            u,
-            y,
-            index: 0,
-            lower: 0,
-            upper: 0,
-        },
-        Answer::A(index) => Place {
-            method,
-            number,
-            u,
-            y,
-            index: twos_complement(index),
-            lower: 0,
-            upper: 0,
-        },
-        Answer::B(b) => Place {
-            method,
-            number,
-            u,
-            y,
-            index: b.index,
-            lower: b.lower,
-            upper: b.upper,
-        },
+impl From<Sample> for Place {
+    ghost from_gives = { λ sample place. place ≡ place_of sample };
+
+    fn from(sample: Sample) -> Place {
+        let (index, lower, upper) = match sample.answer {
+            Answer::Refused(_) => (0, 0, 0),
+            Answer::A(index) => (index.cast_unsigned(), 0, 0),
+            Answer::B(b) => (b.index, b.lower, b.upper),
+        };
+        Place {
+            method: u32::from(method_of(sample.answer)),
+            number: sample.number,
+            u: sample.u,
+            y: sample.y,
+            index,
+            lower,
+            upper,
+        }
     }
 }

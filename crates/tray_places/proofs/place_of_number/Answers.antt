@@ -1,26 +1,19 @@
--- Where the test passes, i is the first place of all; where it does not, none up to i passes.
-use mathlib.Core.Path.{◌≡◌, sym, ◌∙◌}
-use native.Mathlib.Numerals.{add-one}
-use native.Mathlib.Omega.{arith}
+-- The first place that passes.
+use Prim.Native.Nat.{ℕ}
+use mathlib.Core.Path.{◌∙◌}
+use mathlib.Core.List.{List}
 use borrow.Author.Rules.{rules}
-use Rattle.tray_places.specs.Places.{places, place_of_number}
-use Rattle.tray_places.proofs.First.{first_zero, not_here, first_found}
+use borrow.Author.Tests.{tests}
+use Rattle.std.proofs.lemmas.Iterator.{YieldsList-from_slice}
+use Rattle.std.proofs.lemmas.Iterator.Search.{position_from_yields_List}
+use Rattle.tray_places.specs.Places.{places_in, is_held_as}
+use Rattle.tray_places.proofs.Searches.{first_held_as}
 use Rattle.tray_places.proofs.place_of_number.Goals as goal
 
-pub loop-i-init : goal.loop-i-init
-loop-i-init c = (search rules, first_zero _)
-
-pub returns-then-is_held_as : goal.returns-then-is_held_as
-unfolding place_of_number
-returns-then-is_held_as c =
-    sym (first_found _ _ places c.loop-i.invariant.1 (sym c.is_held_as.ensures ∙ c.if-is_held_as.true) (search rules))
-
-pub loop-i-preserved : goal.loop-i-preserved
-loop-i-preserved c =
-    (search rules, rw add-one (not_here _ _ (omega (arith, c.loop-i.invariant.1)) (sym c.is_held_as.ensures ∙ c.if-is_held_as.false)))
-
 pub returns : goal.returns
-unfolding place_of_number
 returns c =
-    let all : c.loop-i.i ≡ places = omega arith in
-    all ∙ rw all at (sym c.loop-i.invariant.1)
+    let tray = c.args.tray.now in
+    let number = c.args.number in
+    position_from_yields_List (λ (xs : List ℕ). is_held_as xs number 0) _ _ c.position.result c.position.ensures.ran
+    (YieldsList-from_slice (places_in tray) (cc)) (λ x b q k. search (rules, tests))
+    ∙ first_held_as tray number

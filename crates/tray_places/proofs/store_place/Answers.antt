@@ -1,13 +1,8 @@
--- One half behind the other.
-use Prim.Native.Nat.{◌*◌}
-use mathlib.Core.List.{[], ◌∷◌}
+-- The eight numbers between those before and those behind.
+use mathlib.Core.Path.{◌∙◌}
 use native.Mathlib.Omega.{arith}
-use Rattle.answer_record.proofs.Stores.{stored_then}
-use Rattle.tray_places.specs.Places.{place_size, numbers_of}
+use Rattle.tray_places.proofs.Kept.{numbers_stored}
 use Rattle.tray_places.proofs.store_place.Goals as goal
 
 pub returns : goal.returns
-unfolding numbers_of
-returns c =
-    let p = c.args.place in
-    stored_then c.args.tray.now (p.method ∷ p.number ∷ p.u ∷ p.y ∷ []) _ (place_size * c.args.i) c.store_half.ensures (omega arith) c.store_half-2.ensures
+returns c = numbers_stored c.args.place c.args.tray.now _ c.requires (omega arith) (c.copy_from_slice.ensures.after ∙ c.from-numbers.ensures)
