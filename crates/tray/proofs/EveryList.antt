@@ -6,6 +6,7 @@ use mathlib.Core.List.{List, [], ◌∷◌}
 use native.Mathlib.Omega.{arith}
 use borrow.Author.Tests.{eq-eqb}
 use lib.ListN.{length}
+use Rattle.std.specs.Prelude.{Ok}
 use Rattle.laws.proofs.Computed.{both_pass}
 use Rattle.laws.proofs.Order.{by_test, by_order}
 use Rattle.index.specs.declared.answer.Answer.{Answer}
@@ -22,9 +23,8 @@ use Rattle.tray_places.proofs.Held.{times_none, times_one, times_append}
 use Rattle.tray_places.proofs.Found.{held_most, empty_size, empty_holds}
 use Rattle.tray_places.proofs.Same.{itself, only, times_fewer, same_number}
 use Rattle.tray.specs.Tray.{held_refusal, held_as, sample_with, put_answer, take_answer}
-use Rattle.tray.specs.declared.Taken.TheVariants as taken
-use Rattle.tray.specs.Calls.{Call, Put, Take, Ask, taken_number, call_refusal, after, after_all, in_by, samples_taken_in, samples_taken_out, all_taken_in, all_taken_out}
-use Rattle.tray.specs.EveryListOfCalls.{EveryList, OtherMemory, EveryCall}
+use Rattle.tray.specs.Calls.{Call, Put, Take, Ask, refused_by, call_refusal, after, after_all, in_by, samples_taken_in, samples_taken_out, all_taken_in, all_taken_out}
+use Rattle.tray.specs.EveryListOfCalls.{EveryList, QuestionNumbers, OtherMemory, EveryCall}
 use Rattle.tray.proofs.Questions.{put_5, take_5}
 use Rattle.tray.proofs.Steps.{pair_first, refused_31, refused_32, put_answered, one_in, refused_33, take_answered, number_out, one_out, call_step}
 
@@ -162,7 +162,7 @@ refused_unchanged l h (Put n u y) p =
     (λ many. (refused_32 l h n u y passed (omega arith) (omega (arith, held_most l))).1)))
 refused_unchanged l h (Take n) p =
     by_order 0 (held_as l n)
-    (λ q. let is = ap taken_number (take_answered l h n q).0 in absurd (omega arith))
+    (λ q. let is = ap refused_by (take_answered l h n q).0 in absurd (omega arith))
     (λ z. (refused_33 l h n (omega arith)).1)
 refused_unchanged l h Ask p = refl
 
@@ -179,7 +179,7 @@ another : (a b : Bool) → a ≡ true → b ≡ false → one (a && not b) ≡ 1
 another a b e f = rw (e, f)
 
 back_out : (l : List ℕ) (n u y : ℕ) → length l ≡ tray_size → refusal u y ≡ 0 → held_as l n ≡ 0 → length (held_in l) < places
-    → take_answer (after l (Put n u y)) n ≡ taken.Out (sample_with n u y (answer_of u y))
+    → take_answer (after l (Put n u y)) n ≡ Ok (sample_with n u y (answer_of u y))
 back_out l n u y h passed new few =
     let s : Sample = sample_with n u y (answer_of u y) in
     let m : List ℕ = after l (Put n u y) in
@@ -197,11 +197,14 @@ back_out l n u y h passed new few =
     let not-s : one (other s) ≡ 0 = that_one (numbered n s) (same s s) its (itself s) in
     let gone : one (other x) ≡ 0 = omega (arith, more other, one_out m size n p other) in
     (take_answered m size n p).0
-    ∙ by_test (same s x) (λ e. ap taken.Out (sym (only s x e)))
+    ∙ by_test (same s x) (λ e. ap Ok (sym (only s x e)))
     (λ e.
     let its-x : numbered n x ≡ true = eq-eqb x.number n (number_out m size n p) in
     let is : one (other x) ≡ 1 = another (numbered n x) (same s x) its-x e in
     absurd (omega arith))
+
+pub question_numbers : QuestionNumbers
+question_numbers = record { lent = refl; pair = λ n. refl; held = refl; full = refl; not_held = refl }
 
 pub other_memory : (tray : List ℕ) (other : length tray ≡ 512 → ⊥) → OtherMemory tray other
 other_memory l h = record {

@@ -10,6 +10,7 @@ use borrow.Author.Tests.{eqb-true, eqb-false}
 use lib.Dec.{eqb}
 use lib.ListN.{length}
 use lib.Signed.{mag}
+use Rattle.std.specs.Prelude.{Option, Some, None}
 use Rattle.laws.specs.Bits.{span32}
 use Rattle.laws.proofs.Order.{by_test, by_order}
 use Rattle.index.specs.declared.answer.Answer.{Answer}
@@ -20,6 +21,7 @@ use Rattle.index.proofs.Fits.{fits}
 use Rattle.answer_record.specs.Bytes.{twos_complement, stored}
 use Rattle.answer_record.proofs.Signed.{twos_complement_fits}
 use Rattle.answer_record.proofs.Stores.{byte_kept}
+use Rattle.index_summary.specs.declared.Summary.{Summary}
 use Rattle.index_summary.proofs.OneLess.{joined_swapped, alone_swapped}
 use Rattle.tray_places.specs.declared.samples.Sample.{Sample}
 use Rattle.tray_places.specs.declared.samples.Place.{Place}
@@ -27,8 +29,6 @@ use Rattle.tray_places.specs.Samples.{place_of, sample_of}
 use Rattle.tray_places.specs.Places.{places, place_size, tray_size, numbers_of, freed, place_at, is_held, sample_at, place_of_number, free_place, held_in}
 use Rattle.tray_places.proofs.Kept.{place_same, held_same, length_numbers, place_there, length_freed}
 use Rattle.tray_places.proofs.Found.{every_tray, none_free, free_is_free, found_is_held, apart}
-use Rattle.tray.specs.declared.state.State.{State}
-use Rattle.tray.specs.declared.state.State.TheVariants.{Refused, Empty, Holding}
 use Rattle.tray.specs.Tray.{held_as, sample_with, tray_after_put, tray_after_take}
 use Rattle.tray.specs.State.{with_answer, state_after}
 use Rattle.tray.proofs.Steps.{put_answered, take_answered, found_within}
@@ -36,10 +36,9 @@ use Rattle.tray.proofs.Walk.{walked, walk_zero, walk_free, walk_held, answer_sma
 
 -- ---- two answers more, in either order
 
-swapped : (st : State) (x y : Answer) → with_answer (with_answer st x) y ≡ with_answer (with_answer st y) x
-swapped (Refused n) x y = refl
-swapped Empty x y = ap Holding (alone_swapped x y)
-swapped (Holding t) x y = ap Holding (joined_swapped t x y)
+swapped : (st : Option Summary) (x y : Answer) → with_answer (with_answer st x) y ≡ with_answer (with_answer st y) x
+swapped None x y = ap Some (alone_swapped x y)
+swapped (Some t) x y = ap Some (joined_swapped t x y)
 
 -- ---- two trays that agree at the places below n, and at all but place k
 
@@ -72,9 +71,9 @@ module _ (h h' : ℕ → Bool) (s s' : ℕ → Sample) where
       (λ y.
       let answer = ap (λ (x : Sample). x.answer) agree.1 in
       walk_held h' s' n (agree.0 ∙ y) ∙ ap₂ with_answer before answer ∙ swapped (walked h s n) x (s n).answer
-      ∙ ap (λ (st : State). with_answer st x) (sym (walk_held h s n y)))
+      ∙ ap (λ (st : Option Summary). with_answer st x) (sym (walk_held h s n y)))
       (λ z.
-      walk_free h' s' n (agree.0 ∙ z) ∙ before ∙ ap (λ (st : State). with_answer st x) (sym (walk_free h s n z))))
+      walk_free h' s' n (agree.0 ∙ z) ∙ before ∙ ap (λ (st : Option Summary). with_answer st x) (sym (walk_free h s n z))))
       (λ b.
       let is : k ≡ n = omega arith in
       let below : walked h' s' n ≡ walked h s n =
@@ -91,11 +90,11 @@ module _ (l vs : List ℕ) (k : ℕ) (short : length vs ≤ place_size) (within 
   agree : (i : ℕ) → (i ≡ k → ⊥) → (is_held after i ≡ is_held l i) × (sample_at after i ≡ sample_at l i)
   agree i d = (held_same l vs i k short (apart i k d), ap sample_of (place_same l vs i k short (apart i k d)))
 
-  filled : is_held l k ≡ false → is_held after k ≡ true → state_after Empty (held_in after) ≡ with_answer (state_after Empty (held_in l)) (sample_at after k).answer
+  filled : is_held l k ≡ false → is_held after k ≡ true → state_after None (held_in after) ≡ with_answer (state_after None (held_in l)) (sample_at after k).answer
   unfolding held_in
   filled e e' = walked_more (is_held l) (is_held after) (sample_at l) (sample_at after) k places within (λ i b d. agree i d) e e'
 
-  emptied : is_held l k ≡ true → is_held after k ≡ false → state_after Empty (held_in l) ≡ with_answer (state_after Empty (held_in after)) (sample_at l k).answer
+  emptied : is_held l k ≡ true → is_held after k ≡ false → state_after None (held_in l) ≡ with_answer (state_after None (held_in after)) (sample_at l k).answer
   unfolding held_in
   emptied e e' =
       walked_more (is_held after) (is_held l) (sample_at after) (sample_at l) k places within (λ i b d. let both = agree i d in (sym both.0, sym both.1)) e' e
@@ -126,12 +125,12 @@ module _ (l : List ℕ) (h : length l ≡ tray_size) (f : Small l) (n : ℕ) whe
     short_place : length (numbers_of (place_of s)) ≤ place_size
     short_place = omega (arith, length_numbers (place_of s))
 
-    pub put_walked : state_after Empty (held_in (tray_after_put l n u y)) ≡ with_answer (state_after Empty (held_in l)) (answer_of u y)
+    pub put_walked : state_after None (held_in (tray_after_put l n u y)) ≡ with_answer (state_after None (held_in l)) (answer_of u y)
     put_walked =
         let stores = (every_tray l).stores s (free_place l) free_within h passed refl in
-        ap (λ (m : List ℕ). state_after Empty (held_in m)) (put_answered l h n u y passed new few).1
+        ap (λ (m : List ℕ). state_after None (held_in m)) (put_answered l h n u y passed new few).1
         ∙ filled l (numbers_of (place_of s)) (free_place l) short_place free_within (free_is_free l free_within) stores.0
-        ∙ ap (λ (x : Sample). with_answer (state_after Empty (held_in l)) x.answer) stores.1
+        ∙ ap (λ (x : Sample). with_answer (state_after None (held_in l)) x.answer) stores.1
 
     pub put_small : Small (tray_after_put l n u y)
     unfolding place_of
@@ -149,12 +148,12 @@ module _ (l : List ℕ) (h : length l ≡ tray_size) (f : Small l) (n : ℕ) whe
     short_freed : length freed ≤ place_size
     short_freed = omega (arith, length_freed)
 
-    pub take_walked : state_after Empty (held_in l) ≡ with_answer (state_after Empty (held_in (tray_after_take l n))) (sample_at l (place_of_number l n)).answer
+    pub take_walked : state_after None (held_in l) ≡ with_answer (state_after None (held_in (tray_after_take l n))) (sample_at l (place_of_number l n)).answer
     take_walked =
         let within = found_within l h n held in
         let at = place_of_number l n in
         emptied l freed at short_freed within (found_is_held l n within) ((every_tray l).frees at within h)
-        ∙ ap (λ (m : List ℕ). with_answer (state_after Empty (held_in m)) (sample_at l at).answer) (sym (take_answered l h n held).1)
+        ∙ ap (λ (m : List ℕ). with_answer (state_after None (held_in m)) (sample_at l at).answer) (sym (take_answered l h n held).1)
 
     pub take_small : Small (tray_after_take l n)
     take_small i =

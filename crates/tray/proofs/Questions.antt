@@ -1,15 +1,16 @@
 -- The questions to a call, and what it answers and leaves by the number that they give.
 use Prim.Native.Nat.{ℕ, ◌*◌, ◌≤◌, ◌<◌}
-use mathlib.Core.Path.{◌≡◌, sym, ap, ◌∙◌}
+use mathlib.Core.Path.{◌≡◌, refl, sym, ap, ◌∙◌}
 use mathlib.Core.Bool.{Bool, false, cond}
 use mathlib.Core.List.{List}
 use native.Mathlib.Omega.{arith}
 use native.Mathlib.Nat.{le_of_eq}
-use borrow.Author.Tests.{lt-ltb, le-ltb, lt-leb, le-leb, eq-eqb, ne_eqb}
-use lib.Dec.{eqb, leb, ltb}
+use borrow.Author.Tests.{lt-ltb, le-ltb, eq-eqb, ne_eqb, eqb-true}
+use lib.Dec.{eqb, ltb}
 use lib.ListN.{length}
+use Rattle.std.specs.Prelude.{Result, Ok, Err}
 use Rattle.laws.specs.Questions.{ask}
-use Rattle.laws.proofs.Order.{by_order}
+use Rattle.laws.proofs.Order.{by_test, by_order}
 use Rattle.index.specs.declared.answer.Answer.{Answer}
 use Rattle.index.specs.declared.answer.Answer.TheVariants as answer
 use Rattle.index.specs.Questions.{refusal}
@@ -21,8 +22,9 @@ use Rattle.tray_places.specs.declared.samples.Place.{Place}
 use Rattle.tray_places.specs.Places.{places, place_size, tray_size, numbers_of, freed, sample_at, place_of_number, free_place, held_in}
 use Rattle.tray_places.specs.Samples.{place_of}
 use Rattle.tray_places.proofs.Found.{some_free, none_free, number_held, number_not_held}
-use Rattle.tray.specs.declared.Taken.TheVariants as taken
-use Rattle.tray.specs.Tray.{not_a_tray, held_refusal, full_refusal, not_held_refusal, first_no, held_as, sample_with, tray_with, hold_refusal, tray_holding, put_refusal, put_answer, tray_after_put, take_refusal, take_answer, tray_after_take}
+use Rattle.tray.specs.declared.refusal.Refusal.{Refusal}
+use Rattle.tray.specs.declared.refusal.Refusal.TheVariants.{NotATray, NumberHeld, TrayFull, NumberNotHeld}
+use Rattle.tray.specs.Tray.{not_a_tray, held_refusal, full_refusal, not_held_refusal, number_of_refusal, refusal_of, answered, held_as, sample_with, tray_with, hold_refusal, tray_holding, hold_answer, put_refusal, put_answer, tray_after_put, take_refusal, take_answer, tray_after_take}
 
 some : (k : ℕ) → 0 < k → eqb k 0 ≡ false
 some k p = ne_eqb k 0 (λ (z : k ≡ 0). omega arith)
@@ -30,17 +32,27 @@ some k p = ne_eqb k 0 (λ (z : k ≡ 0). omega arith)
 pub above_zero : (k : ℕ) → (k ≡ 0 → ⊥) → 0 < k
 above_zero k h = by_order 0 k (λ p. p) (λ z. absurd (h (omega arith)))
 
--- where every question is answered yes, a place is free
-pub place_free : (pair at free : ℕ) {k : ℕ} → k ≡ first_no pair at free → k ≡ 0 → free < places
-unfolding first_no
-place_free pair at free {k} e z =
-    by_order 0 pair (λ p. let is : k ≡ pair = rw (some pair p) at e in absurd (omega arith))
-    (λ q. by_order at places
-    (λ p. let is : k ≡ held_refusal = rw (eq-eqb pair 0 (omega arith), lt-leb places at p) at e in absurd (omega arith))
-    (λ r. by_order free places (λ p. p)
-    (λ p.
-    let is : k ≡ full_refusal = rw (eq-eqb pair 0 (omega arith), le-leb places at r, le-ltb free places p) at e in
-    absurd (omega arith))))
+-- ---- a refusal and its number
+
+refusal_back : (n : ℕ) → number_of_refusal (refusal_of n) ≡ n
+refusal_back n =
+    by_test (eqb n not_a_tray) (λ e. rw e (sym (eqb-true n not_a_tray e)))
+    (λ a. by_test (eqb n held_refusal) (λ e. rw (a, e) (sym (eqb-true n held_refusal e)))
+    (λ b. by_test (eqb n full_refusal) (λ e. rw (a, b, e) (sym (eqb-true n full_refusal e)))
+    (λ c. by_test (eqb n not_held_refusal) (λ e. rw (a, b, c, e) (sym (eqb-true n not_held_refusal e))) (λ d. rw (a, b, c, d)))))
+
+-- what an answer says of the number
+pub answered_err : {X : Type 0} (n : ℕ) (x : X) {r : Refusal} → Err r ≡ answered n x → (number_of_refusal r ≡ n) × (0 < n)
+answered_err {X} n x {r} e =
+    by_order 0 n
+    (λ p. let is : ◌≡◌ {A = Result X Refusal} (Err r) (Err (refusal_of n)) = rw (some n p) at e in let same : r ≡ refusal_of n = cc in (ap number_of_refusal same ∙ refusal_back n, p))
+    (λ z. let is : ◌≡◌ {A = Result X Refusal} (Err r) (Ok x) = rw (eq-eqb n 0 (omega arith)) at e in absurd cc)
+
+pub answered_ok : {X : Type 0} (n : ℕ) (x : X) {y : X} → Ok y ≡ answered n x → n ≡ 0
+answered_ok {X} n x {y} e =
+    by_order 0 n
+    (λ p. let is : ◌≡◌ {A = Result X Refusal} (Ok y) (Err (refusal_of n)) = rw (some n p) at e in absurd cc)
+    (λ z. omega arith)
 
 module _ (l : List ℕ) (n : ℕ) where
   -- ---- the questions to a pair of that number
@@ -66,37 +78,40 @@ module _ (l : List ℕ) (n : ℕ) where
   unfolding hold_refusal
   room h k = ap by_31 (eq-eqb (held_as l n) 0 h) ∙ ap (λ (b : Bool). ask b full_refusal 0) (lt-ltb (length (held_in l)) places k)
 
-  -- by places they are the same
-  is_new : eqb (held_as l n) 0 ≡ leb places (place_of_number l n)
-  is_new =
-      by_order (place_of_number l n) places
-      (λ h. some (held_as l n) (number_held l n h) ∙ sym (lt-leb places (place_of_number l n) h))
-      (λ h. eq-eqb (held_as l n) 0 (number_not_held l n h) ∙ sym (le-leb places (place_of_number l n) h))
+  -- ---- holding a place, by places as the code asks
 
-  is_room : ltb (length (held_in l)) places ≡ ltb (free_place l) places
-  is_room =
-      by_order (free_place l) places
-      (λ h. lt-ltb (length (held_in l)) places (some_free l h) ∙ sym (lt-ltb (free_place l) places h))
-      (λ h. le-ltb (length (held_in l)) places (le_of_eq (sym (none_free l h))) ∙ sym (le-ltb (free_place l) places h))
+  -- it is refused by some number
+  pub hold_some : {r : Refusal} → Err r ≡ hold_answer l n → 0 < number_of_refusal r
+  unfolding hold_answer
+  hold_some {r} e = let told = answered_err (hold_refusal l n 0) tt e in omega (arith, told.0, told.1)
 
-  by_places : (k : ℕ) → first_no k (place_of_number l n) (free_place l) ≡ hold_refusal l n k
-  unfolding first_no hold_refusal
-  by_places k = rw (is_new, is_room)
+  module _ (place : Place) where
+    hold_by : (k : ℕ) → hold_refusal l n 0 ≡ k → 0 < k → (Err (refusal_of k) ≡ hold_answer l n) × (l ≡ tray_holding l n 0 place)
+    unfolding hold_answer tray_holding
+    hold_by k e p = (rw (e, some k p), rw (e, some k p))
 
-  module _ (pair : ℕ) {k at free : ℕ} (k_is : k ≡ first_no pair at free) (at-is : at ≡ place_of_number l n) (free-is : free ≡ free_place l) (place : Place) where
-    asked : k ≡ hold_refusal l n pair
-    asked = rw (at-is, free-is) at k_is ∙ by_places pair
+    pub hold_31 : place_of_number l n < places → (Err NumberHeld ≡ hold_answer l n) × (l ≡ tray_holding l n 0 place)
+    hold_31 h = hold_by held_refusal (no_31 (number_held l n h)) (omega arith)
 
-    pub hold_refused : (k ≡ 0 → ⊥) → (k ≡ hold_refusal l n pair) × (l ≡ tray_holding l n pair place)
-    unfolding tray_holding
-    hold_refused h = (asked, rw (← asked, ne_eqb k 0 h))
+    pub hold_32 : places ≤ place_of_number l n → places ≤ free_place l → (Err TrayFull ≡ hold_answer l n) × (l ≡ tray_holding l n 0 place)
+    hold_32 h k = hold_by full_refusal (no_32 (number_not_held l n h) (le_of_eq (sym (none_free l k)))) (omega arith)
 
-    pub hold_held : {m : List ℕ} → k ≡ 0 → m ≡ stored l (place_size * free) (numbers_of place) → (0 ≡ hold_refusal l n pair) × (m ≡ tray_holding l n pair place)
-    unfolding tray_holding
-    hold_held z s = let none : hold_refusal l n pair ≡ 0 = sym asked ∙ z in (sym none, rw none (rw free-is at s))
+    pub hold_held : {i : ℕ} {m : List ℕ} → places ≤ place_of_number l n → (i ≡ free_place l) × (i < places) → m ≡ stored l (place_size * i) (numbers_of place)
+        → (Ok tt ≡ hold_answer l n) × (m ≡ tray_holding l n 0 place)
+    unfolding hold_answer tray_holding
+    hold_held {i} {m} h f s =
+        let free : free_place l < places = omega (arith, f.0, f.1) in
+        let none : hold_refusal l n 0 ≡ 0 = room (number_not_held l n h) (some_free l free) in
+        (rw none, rw none (rw f.0 at s))
 
   -- ---- putting in
   module _ (u y : ℕ) where
+    -- a refused pair's answer is its number
+    refused_is : (a : Answer) → RightAnswer u y a → (number_of a ≡ 0 → ⊥) → a ≡ answer.Refused (refusal u y)
+    refused_is (answer.Refused k) r z = ap answer.Refused r.number
+    refused_is (answer.A k) r z = absurd (z refl)
+    refused_is (answer.B b) r z = absurd (z refl)
+
     put_size : (length l ≡ tray_size → ⊥) → put_refusal l n u y ≡ not_a_tray
     unfolding put_refusal
     put_size h = rw (ne_eqb (length l) tray_size h)
@@ -118,24 +133,32 @@ module _ (l : List ℕ) (n : ℕ) where
     pub put_5 : (length l ≡ tray_size → ⊥) → (answer.Refused not_a_tray ≡ put_answer l n u y) × (l ≡ tray_after_put l n u y)
     put_5 h = let by = put_by not_a_tray (put_size h) (omega arith) in (sym by.0, sym by.1)
 
-    -- from what `hold` answers and leaves
-    module _ {a : Answer} {k pair : ℕ} {p : Place} {m : List ℕ} (h : length l ≡ tray_size) (a_is : a ≡ answer_of u y) (is_right : RightAnswer u y a)
-        (pair_is : pair ≡ number_of a) (p-is : p ≡ place_of (sample_with n u y a)) (k_is : k ≡ hold_refusal l n pair) (m-is : m ≡ tray_holding l n pair p) where
-      number : k ≡ put_refusal l n u y
-      number = k_is ∙ ap (hold_refusal l n) (pair_is ∙ is_right.number) ∙ sym (put_sized h)
+    -- from the pair's answer, and what `hold` answers and leaves
+    module _ {a : Answer} (h : length l ≡ tray_size) (a_is : a ≡ answer_of u y) (is_right : RightAnswer u y a) where
+      pub put_pair : (number_of a ≡ 0 → ⊥) → (a ≡ put_answer l n u y) × (l ≡ tray_after_put l n u y)
+      put_pair z =
+          let k : ℕ = refusal u y in
+          let p : 0 < k = omega (arith, above_zero (number_of a) z, is_right.number) in
+          let by = put_by k (put_sized h ∙ no_pair k p) p in
+          (refused_is a is_right z ∙ sym by.0, sym by.1)
 
-      pub put_refused : (k ≡ 0 → ⊥) → (answer.Refused k ≡ put_answer l n u y) × (m ≡ tray_after_put l n u y)
-      unfolding tray_holding
-      put_refused z =
-          let by = put_by k (sym number) (above_zero k z) in
-          (sym by.0, rw (← k_is, ne_eqb k 0 z) at m-is ∙ sym by.1)
+      module _ {p : Place} {m : List ℕ} (passed : number_of a ≡ 0) (p-is : p ≡ place_of (sample_with n u y a)) (m-is : m ≡ tray_holding l n 0 p) where
+        asked : hold_refusal l n 0 ≡ put_refusal l n u y
+        asked = let none : refusal u y ≡ 0 = sym is_right.number ∙ passed in sym (put_sized h ∙ ap (hold_refusal l n) none)
 
-      pub put_held : k ≡ 0 → (a ≡ put_answer l n u y) × (m ≡ tray_after_put l n u y)
-      unfolding tray_holding
-      put_held z =
-          let by = put_passed (sym number ∙ z) in
-          let none : hold_refusal l n pair ≡ 0 = sym k_is ∙ z in
-          (a_is ∙ sym by.0, rw (none, p-is, a_is) at m-is ∙ sym by.1)
+        pub put_refused : {r : Refusal} → Err r ≡ hold_answer l n → (answer.Refused (number_of_refusal r) ≡ put_answer l n u y) × (m ≡ tray_after_put l n u y)
+        unfolding hold_answer tray_holding
+        put_refused {r} e =
+            let told = answered_err (hold_refusal l n 0) tt e in
+            let by = put_by (hold_refusal l n 0) (sym asked) told.1 in
+            (ap answer.Refused told.0 ∙ sym by.0, rw (some (hold_refusal l n 0) told.1) at m-is ∙ sym by.1)
+
+        pub put_held : Ok tt ≡ hold_answer l n → (a ≡ put_answer l n u y) × (m ≡ tray_after_put l n u y)
+        unfolding hold_answer tray_holding
+        put_held e =
+            let none : hold_refusal l n 0 ≡ 0 = answered_ok (hold_refusal l n 0) tt e in
+            let by = put_passed (sym asked ∙ none) in
+            (a_is ∙ sym by.0, rw (none, p-is, a_is) at m-is ∙ sym by.1)
 
   -- ---- taking out
   take_size : (length l ≡ tray_size → ⊥) → take_refusal l n ≡ not_a_tray
@@ -151,23 +174,23 @@ module _ (l : List ℕ) (n : ℕ) where
   held h k = rw (eq-eqb (length l) tray_size h, lt-ltb 0 (held_as l n) k)
 
   -- by the number that the questions give
-  pub take_by : (k : ℕ) → take_refusal l n ≡ k → 0 < k → (take_answer l n ≡ taken.Refused k) × (tray_after_take l n ≡ l)
+  pub take_by : (k : ℕ) → take_refusal l n ≡ k → 0 < k → (take_answer l n ≡ Err (refusal_of k)) × (tray_after_take l n ≡ l)
   unfolding take_answer tray_after_take
   take_by k e p = (rw (e, some k p), rw (e, some k p))
 
   pub take_passed : take_refusal l n ≡ 0
-      → (take_answer l n ≡ taken.Out (sample_at l (place_of_number l n))) × (tray_after_take l n ≡ stored l (place_size * place_of_number l n) freed)
+      → (take_answer l n ≡ Ok (sample_at l (place_of_number l n))) × (tray_after_take l n ≡ stored l (place_size * place_of_number l n) freed)
   unfolding take_answer tray_after_take
   take_passed e = (rw e, rw e)
 
-  pub take_5 : (length l ≡ tray_size → ⊥) → (taken.Refused not_a_tray ≡ take_answer l n) × (l ≡ tray_after_take l n)
+  pub take_5 : (length l ≡ tray_size → ⊥) → (Err NotATray ≡ take_answer l n) × (l ≡ tray_after_take l n)
   take_5 h = let by = take_by not_a_tray (take_size h) (omega arith) in (sym by.0, sym by.1)
 
-  pub take_33 : {i : ℕ} → length l ≡ tray_size → i ≡ place_of_number l n → places ≤ i → (taken.Refused not_held_refusal ≡ take_answer l n) × (l ≡ tray_after_take l n)
-  take_33 h e k = let by = take_by not_held_refusal (no_33 h (number_not_held l n (rw e at k))) (omega arith) in (sym by.0, sym by.1)
+  pub take_33 : length l ≡ tray_size → places ≤ place_of_number l n → (Err NumberNotHeld ≡ take_answer l n) × (l ≡ tray_after_take l n)
+  take_33 h k = let by = take_by not_held_refusal (no_33 h (number_not_held l n k)) (omega arith) in (sym by.0, sym by.1)
 
-  pub take_out : {i : ℕ} {s : Sample} {m : List ℕ} → length l ≡ tray_size → i ≡ place_of_number l n → i < places → s ≡ sample_at l i
-      → m ≡ stored l (place_size * i) freed → (taken.Out s ≡ take_answer l n) × (m ≡ tray_after_take l n)
-  take_out {i} {s} {m} h e k f g =
-      let by = take_passed (held h (number_held l n (rw e at k))) in
-      (ap taken.Out (rw e at f) ∙ sym by.0, rw e at g ∙ sym by.1)
+  pub take_out : {i : ℕ} {s : Sample} {m : List ℕ} → length l ≡ tray_size → (i ≡ place_of_number l n) × (i < places) → s ≡ sample_at l i
+      → m ≡ stored l (place_size * i) freed → (Ok s ≡ take_answer l n) × (m ≡ tray_after_take l n)
+  take_out {i} {s} {m} h e f g =
+      let by = take_passed (held h (number_held l n (rw e.0 at e.1))) in
+      (ap Ok (rw e.0 at f) ∙ sym by.0, rw e.0 at g ∙ sym by.1)

@@ -6,6 +6,7 @@ use mathlib.Core.List.{List, [], ◌∷◌}
 use native.Mathlib.Omega.{arith}
 use borrow.Author.Tests.{eqb-true}
 use lib.ListN.{length}
+use Rattle.std.specs.Prelude.{Ok, Err}
 use Rattle.laws.proofs.Order.{by_test, by_order}
 use Rattle.index.specs.declared.answer.Answer.{Answer}
 use Rattle.index.specs.declared.answer.Answer.TheVariants as answer
@@ -23,7 +24,7 @@ use Rattle.tray_places.proofs.Held.{times_none, times_one}
 use Rattle.tray_places.proofs.Kept.{length_numbers, length_freed}
 use Rattle.tray_places.proofs.Found.{every_tray, held_most, free_is_free, none_free, found_is_held, found_number, number_not_held, filled, emptied}
 use Rattle.tray_places.proofs.SamplesBack.{method_some}
-use Rattle.tray.specs.declared.Taken.TheVariants as taken
+use Rattle.tray.specs.declared.refusal.Refusal.TheVariants.{NumberNotHeld}
 use Rattle.tray.specs.Tray.{held_refusal, full_refusal, not_held_refusal, held_as, hold_refusal, put_refusal, sample_with, tray_with, put_answer, tray_after_put, take_answer, tray_after_take}
 use Rattle.tray.specs.Calls.{Call, Put, Take, Ask, after, in_by, out_by, samples_taken_in, samples_taken_out}
 use Rattle.tray.proofs.Questions.{no_pair, no_31, no_32, room, put_sized, put_by, put_passed, no_33, held, take_by, take_passed}
@@ -70,10 +71,10 @@ module _ (l : List ℕ) (h : length l ≡ tray_size) (n : ℕ) where
   abbrev k : ℕ
   k = place_of_number l n
 
-  pub refused_33 : held_as l n ≡ 0 → (take_answer l n ≡ taken.Refused not_held_refusal) × (tray_after_take l n ≡ l)
+  pub refused_33 : held_as l n ≡ 0 → (take_answer l n ≡ Err NumberNotHeld) × (tray_after_take l n ≡ l)
   refused_33 z = take_by l n not_held_refusal (no_33 l n h z) (omega arith)
 
-  pub take_answered : 0 < held_as l n → (take_answer l n ≡ taken.Out (sample_at l k)) × (tray_after_take l n ≡ stored l (place_size * k) freed)
+  pub take_answered : 0 < held_as l n → (take_answer l n ≡ Ok (sample_at l k)) × (tray_after_take l n ≡ stored l (place_size * k) freed)
   take_answered p = take_passed l n (held l n h p)
 
   pub found_within : 0 < held_as l n → k < places

@@ -9,6 +9,7 @@ use borrow.Author.Tests.{eqb-true, eqb-false, eq-eqb, ne_eqb, lt-ltb, le-ltb}
 use lib.Dec.{eqb}
 use lib.ListN.{length, length-append, get_or}
 use lib.Signed.{mag}
+use Rattle.std.specs.Prelude.{Option, Some, None, Ok}
 use Rattle.laws.specs.Bits.{half32, span32}
 use Rattle.laws.proofs.Order.{by_test, by_order}
 use Rattle.index.specs.declared.answer.Answer.{Answer}
@@ -20,41 +21,41 @@ use Rattle.index_summary.proofs.Fits.{joined_within, nothing_within, within_more
 use Rattle.index_summary.proofs.Right.{count_last, alone_right, joined_nothing, joined_right}
 use Rattle.answer_record.specs.Bytes.{signed_of}
 use Rattle.tray_places.specs.declared.samples.Sample.{Sample}
-use Rattle.tray_places.specs.Samples.{answer_from}
-use Rattle.tray_places.specs.Places.{places, tray_size, is_held, sample_at, among, held_in}
+use Rattle.tray_places.specs.declared.samples.Place.{Place}
+use Rattle.tray_places.specs.Samples.{answer_from, sample_of}
+use Rattle.tray_places.specs.Places.{places, tray_size, places_in, is_held, sample_at, among, held_in}
+use Rattle.tray_places.proofs.Searches.{place_is, free_is}
 use Rattle.tray_places.proofs.Held.{among_zero, next_free, next_held}
-use Rattle.tray.specs.declared.state.State.{State}
-use Rattle.tray.specs.declared.state.State.TheVariants.{Refused, Empty, Holding}
 use Rattle.tray.specs.Tray.{is_tray}
 use Rattle.tray.specs.State.{with_answer, state_after, state_of, RightState, summary_in, with_place, state_with}
 
 -- ---- one place more
 
-after_append : (st : State) (xs ys : List Sample) → state_after st (xs ++ ys) ≡ state_after (state_after st xs) ys
+after_append : (st : Option Summary) (xs ys : List Sample) → state_after st (xs ++ ys) ≡ state_after (state_after st xs) ys
 unfolding state_after
 after_append st [] ys = refl
 after_append st (x ∷ xs) ys = after_append (with_answer st x.answer) xs ys
 
-after_none : (st : State) → state_after st [] ≡ st
+after_none : (st : Option Summary) → state_after st [] ≡ st
 unfolding state_after
 after_none st = refl
 
-after_one : (st : State) (s : Sample) → state_after st (s ∷ []) ≡ with_answer st s.answer
+after_one : (st : Option Summary) (s : Sample) → state_after st (s ∷ []) ≡ with_answer st s.answer
 unfolding state_after
 after_one st s = refl
 
 module _ (h : ℕ → Bool) (s : ℕ → Sample) where
-  abbrev pub walked : ℕ → State
-  walked n = state_after Empty (among h s n)
+  abbrev pub walked : ℕ → Option Summary
+  walked n = state_after None (among h s n)
 
-  pub walk_zero : Empty ≡ walked 0
-  walk_zero = sym (ap (state_after Empty) (among_zero h s) ∙ after_none Empty)
+  pub walk_zero : None ≡ walked 0
+  walk_zero = sym (ap (state_after None) (among_zero h s) ∙ after_none None)
 
   pub walk_free : (n : ℕ) → h n ≡ false → walked (suc n) ≡ walked n
-  walk_free n e = ap (state_after Empty) (next_free h s n e) ∙ after_append Empty (among h s n) [] ∙ after_none (walked n)
+  walk_free n e = ap (state_after None) (next_free h s n e) ∙ after_append None (among h s n) [] ∙ after_none (walked n)
 
   pub walk_held : (n : ℕ) → h n ≡ true → walked (suc n) ≡ with_answer (walked n) (s n).answer
-  walk_held n e = ap (state_after Empty) (next_held h s n e) ∙ after_append Empty (among h s n) (s n ∷ []) ∙ after_one (walked n) (s n)
+  walk_held n e = ap (state_after None) (next_held h s n e) ∙ after_append None (among h s n) (s n ∷ []) ∙ after_one (walked n) (s n)
 
 -- ---- the index of a sample that is held, whatever the numbers of its place are
 
@@ -75,21 +76,19 @@ abbrev answers : List Sample → List Answer
 answers xs = map (λ (s : Sample). s.answer) xs
 
 -- of a list of samples
-abbrev pub StateOf : List Sample → State → Type 0
-StateOf xs (Refused number) = ⊥
-StateOf xs Empty = xs ≡ []
-StateOf xs (Holding t) = SummaryOf (answers xs) t
+abbrev pub StateOf : List Sample → Option Summary → Type 0
+StateOf xs None = xs ≡ []
+StateOf xs (Some t) = SummaryOf (answers xs) t
 
 answers_last : (xs : List Sample) (s : Sample) → answers xs ++ (s.answer ∷ []) ≡ answers (xs ++ (s ∷ []))
 answers_last xs s = sym (map-append (λ (x : Sample). x.answer) xs (s ∷ []))
 
-with_right : (xs : List Sample) (st : State) (s : Sample) → StateOf xs st → StateOf (xs ++ (s ∷ [])) (with_answer st s.answer)
-with_right xs (Refused k) s h = absurd h
-with_right xs Empty s h = rw h (alone_right s.answer)
-with_right xs (Holding t) s h =
+with_right : (xs : List Sample) (st : Option Summary) (s : Sample) → StateOf xs st → StateOf (xs ++ (s ∷ [])) (with_answer st s.answer)
+with_right xs None s h = rw h (alone_right s.answer)
+with_right xs (Some t) s h =
     subst (λ (xs : List Answer). SummaryOf xs (joined_of t s.answer)) (answers_last xs s) (joined_right (answers xs) t s.answer h)
 
-after_right : (xs ys : List Sample) (st : State) → StateOf xs st → StateOf (xs ++ ys) (state_after st ys)
+after_right : (xs ys : List Sample) (st : Option Summary) → StateOf xs st → StateOf (xs ++ ys) (state_after st ys)
 unfolding state_after
 after_right xs [] st h = rw (append-nil xs) h
 after_right xs (y ∷ ys) st h =
@@ -128,21 +127,19 @@ held_counted : (l : List ℕ) → Counted (held_in l)
 unfolding held_in
 held_counted l = places_counted l places
 
-right_of : (l : List ℕ) (st : State) → length l ≡ tray_size → StateOf (held_in l) st → RightState l st
-right_of l (Refused k) h r = absurd r
-right_of l Empty h r = (h, r)
-right_of l (Holding t) h r = (h, r, omega (arith, r.a_is, r.settled_is, r.near_is, held_counted l))
+right_of : (l : List ℕ) (st : Option Summary) → length l ≡ tray_size → StateOf (held_in l) st → RightState l (Ok st)
+right_of l None h r = (h, r)
+right_of l (Some t) h r = (h, r, omega (arith, r.a_is, r.settled_is, r.near_is, held_counted l))
 
 -- ---- the summary that the code holds
 
 places_right : (l : List ℕ) (n : ℕ) → StateOf (among (is_held l) (sample_at l) n) (walked (is_held l) (sample_at l) n)
-places_right l n = after_right [] (among (is_held l) (sample_at l) n) Empty refl
+places_right l n = after_right [] (among (is_held l) (sample_at l) n) None refl
 
--- one answer more, in a state that is not refused
-pub joined_in : (xs : List Sample) (st : State) (x : Answer) → StateOf xs st → mag (index_of x) < span32 → joined_of (summary_in st) x ≡ summary_in (with_answer st x)
-joined_in xs (Refused k) x r h = absurd r
-joined_in xs Empty x r h = joined_nothing x h
-joined_in xs (Holding t) x r h = refl
+-- one answer more
+pub joined_in : (xs : List Sample) (st : Option Summary) (x : Answer) → StateOf xs st → mag (index_of x) < span32 → joined_of (summary_in st) x ≡ summary_in (with_answer st x)
+joined_in xs None x r h = joined_nothing x h
+joined_in xs (Some t) x r h = refl
 
 module _ (l : List ℕ) (small : (k : ℕ) → mag (index_of (sample_at l k).answer) < span32) where
   abbrev passed : ℕ → Summary
@@ -156,9 +153,16 @@ module _ (l : List ℕ) (small : (k : ℕ) → mag (index_of (sample_at l k).ans
   passed_free : (n : ℕ) → is_held l n ≡ false → passed (suc n) ≡ passed n
   passed_free n e = ap summary_in (walk_free (is_held l) (sample_at l) n e)
 
-  pub walk_next : (n : ℕ) → with_place l n (passed n) ≡ passed (n + 1)
+  walk_next : (n : ℕ) → with_place l n (passed n) ≡ passed (n + 1)
   walk_next n =
       rw (add-one n) (by_test (is_held l n) (λ e. rw e (sym (passed_held n e))) (λ e. rw e (sym (passed_free n e))))
+
+  -- place i, by its own numbers
+  pub walk_place : (n : ℕ) (d : List ℕ) {t u : Summary} → n < places → t ≡ passed n → u ≡ with_place (get_or (places_in l) n d) 0 t → u ≡ passed (n + 1)
+  walk_place n d h e f =
+      let free = free_is l n d h in
+      let answer = ap (λ (p : Place). (sample_of p).answer) (place_is l n d h) in
+      rw (e, free, answer) at f ∙ walk_next n
 
   -- its numbers fit
   walk_within : (n : ℕ) → Within n (passed n)
@@ -176,11 +180,10 @@ some_counted : (xs : List Sample) (t : Summary) → SummaryOf (answers xs) t →
 some_counted [] t r = absurd r.lowest_held
 some_counted (x ∷ xs) t r = omega arith
 
-told : (xs : List Sample) (st : State) → StateOf xs st → Counted xs → state_with (summary_in st) ≡ st
+told : (xs : List Sample) (st : Option Summary) → StateOf xs st → Counted xs → state_with (summary_in st) ≡ st
 unfolding state_with
-told xs (Refused k) r c = absurd r
-told xs Empty r c = refl
-told xs (Holding t) r c =
+told xs None r c = refl
+told xs (Some t) r c =
     let some : 0 < t.a + t.settled + t.near = omega (arith, r.a_is, r.settled_is, r.near_is, some_counted xs t r) in
     by_order 0 t.a (λ p. rw (ne_eqb t.a 0 (λ (z : t.a ≡ 0). omega arith)))
     (λ p. by_order 0 t.settled
@@ -190,13 +193,13 @@ told xs (Holding t) r c =
 
 -- ---- of a tray
 
-pub held_right : (l : List ℕ) → StateOf (held_in l) (state_after Empty (held_in l))
-held_right l = after_right [] (held_in l) Empty refl
+pub held_right : (l : List ℕ) → StateOf (held_in l) (state_after None (held_in l))
+held_right l = after_right [] (held_in l) None refl
 
-pub walk_told : (l : List ℕ) {t : Summary} {st : State} → t ≡ summary_in (state_after Empty (held_in l)) → st ≡ state_with t → st ≡ state_after Empty (held_in l)
-walk_told l e f = f ∙ ap state_with e ∙ told (held_in l) (state_after Empty (held_in l)) (held_right l) (held_counted l)
+pub walk_told : (l : List ℕ) {t : Summary} {st : Option Summary} → t ≡ summary_in (state_after None (held_in l)) → st ≡ state_with t → st ≡ state_after None (held_in l)
+walk_told l e f = f ∙ ap state_with e ∙ told (held_in l) (state_after None (held_in l)) (held_right l) (held_counted l)
 
-pub walk_right : (l : List ℕ) {st : State} → length l ≡ tray_size → st ≡ state_after Empty (held_in l) → RightState l st
+pub walk_right : (l : List ℕ) {st : Option Summary} → length l ≡ tray_size → st ≡ state_after None (held_in l) → RightState l (Ok st)
 walk_right l {st} h e = right_of l st h (subst (StateOf (held_in l)) (sym e) (held_right l))
 
 pub state_right : (l : List ℕ) → RightState l (state_of l)

@@ -1,14 +1,12 @@
 -- Change request #102: "every list of these calls from an empty tray". What a call and a list of calls leave and answer, and which samples they take in and out.
-use Rattle.std.specs.Prelude.{ℕ, List, [], ◌∷◌, ◌++◌}
+use Rattle.std.specs.Prelude.{ℕ, List, [], ◌∷◌, ◌++◌, Option, Result, Ok, Err}
 use Rattle.index.specs.declared.answer.Answer.{Answer}
 use Rattle.index.specs.declared.answer.Answer.TheVariants as answer
 use Rattle.index.specs.Answer.{number_of}
+use Rattle.index_summary.specs.declared.Summary.{Summary}
 use Rattle.tray_places.specs.declared.samples.Sample.{Sample}
-use Rattle.tray.specs.declared.Taken.{Taken}
-use Rattle.tray.specs.declared.Taken.TheVariants as taken
-use Rattle.tray.specs.declared.state.State.{State}
-use Rattle.tray.specs.declared.state.State.TheVariants as state
-use Rattle.tray.specs.Tray.{sample_with, put_answer, tray_after_put, take_answer, tray_after_take}
+use Rattle.tray.specs.declared.refusal.Refusal.{Refusal}
+use Rattle.tray.specs.Tray.{number_of_refusal, sample_with, put_answer, tray_after_put, take_answer, tray_after_take}
 use Rattle.tray.specs.State.{state_of}
 
 -- a call: putting in a number, u and y; taking out a number; asking for the state
@@ -18,19 +16,14 @@ pub data Call : Type 0 where
   Ask : Call
 
 -- the number of the question that refuses a call, 0 where none does
-abbrev pub taken_number : Taken → ℕ
-taken_number (taken.Refused number) = number
-taken_number (taken.Out s) = 0
-
-abbrev pub state_number : State → ℕ
-state_number (state.Refused number) = number
-state_number state.Empty = 0
-state_number (state.Holding t) = 0
+abbrev pub refused_by : {X : Type 0} → Result X Refusal → ℕ
+refused_by (Err refusal) = number_of_refusal refusal
+refused_by (Ok x) = 0
 
 abbrev pub call_refusal : List ℕ → Call → ℕ
 call_refusal tray (Put number u y) = number_of (put_answer tray number u y)
-call_refusal tray (Take number) = taken_number (take_answer tray number)
-call_refusal tray Ask = state_number (state_of tray)
+call_refusal tray (Take number) = refused_by (take_answer tray number)
+call_refusal tray Ask = refused_by (state_of tray)
 
 -- the tray after a call, and after a list of calls, the first one first
 abbrev pub after : List ℕ → Call → List ℕ
@@ -45,8 +38,8 @@ after_all tray (call ∷ calls) = after_all (after tray call) calls
 -- what a call answers, and what a list of calls answers, one after the other
 pub data CallAnswer : Type 0 where
   ToPut : Answer → CallAnswer
-  ToTake : Taken → CallAnswer
-  ToAsk : State → CallAnswer
+  ToTake : Result Sample Refusal → CallAnswer
+  ToAsk : Result (Option Summary) Refusal → CallAnswer
 
 abbrev pub call_answer : List ℕ → Call → CallAnswer
 call_answer tray (Put number u y) = ToPut (put_answer tray number u y)
@@ -63,9 +56,9 @@ in_by number u y (answer.Refused refused) = []
 in_by number u y (answer.A index) = sample_with number u y (answer.A index) ∷ []
 in_by number u y (answer.B b) = sample_with number u y (answer.B b) ∷ []
 
-abbrev pub out_by : Taken → List Sample
-out_by (taken.Refused number) = []
-out_by (taken.Out s) = s ∷ []
+abbrev pub out_by : Result Sample Refusal → List Sample
+out_by (Err refusal) = []
+out_by (Ok s) = s ∷ []
 
 abbrev pub samples_taken_in : List ℕ → Call → List Sample
 samples_taken_in tray (Put number u y) = in_by number u y (put_answer tray number u y)

@@ -1,6 +1,6 @@
 -- Change request #102, of lists of calls: "Samples held equal samples taken in less samples taken out, over every list of these calls from an empty tray. A refused
 -- call changes nothing, and 32 comes only with 64 held." What holds after every list of calls, and of each single call on any tray.
-use Rattle.std.specs.Prelude.{ℕ, ◌+◌, ◌≤◌, ◌<◌, ◌≡◌, Bool, List, length}
+use Rattle.std.specs.Prelude.{ℕ, ◌+◌, ◌≤◌, ◌<◌, ◌≡◌, Bool, List, length, Ok, Err}
 use Rattle.index.specs.declared.answer.Answer.TheVariants as answer
 use Rattle.index.specs.Questions.{refusal}
 use Rattle.index.specs.Answer.{RightAnswer}
@@ -8,8 +8,8 @@ use Rattle.index.specs.ChosenAnswer.{answer_of}
 use Rattle.tray_places.specs.declared.samples.Sample.{Sample}
 use Rattle.tray_places.specs.Places.{empty_tray, held_in}
 use Rattle.tray_places.specs.Counts.{one, times, numbered, same}
-use Rattle.tray.specs.declared.Taken.TheVariants as taken
-use Rattle.tray.specs.Tray.{held_as, sample_with, put_answer, take_answer}
+use Rattle.tray.specs.declared.refusal.Refusal.TheVariants.{NotATray, Pair, NumberHeld, TrayFull, NumberNotHeld}
+use Rattle.tray.specs.Tray.{number_of_refusal, held_as, sample_with, put_answer, take_answer}
 use Rattle.tray.specs.Calls.{Call, Put, Take, call_refusal, after, after_all, all_taken_in, all_taken_out}
 
 -- the samples that are held after a list of calls from the empty tray, that it took in and that it took out
@@ -42,17 +42,25 @@ pub record EveryList (calls : List Call) : Type 0 where
   -- "32 comes only with 64 held", whatever is put in next
   pub full : (number u y : ℕ) → put_answer (after_all empty_tray calls) number u y ≡ answer.Refused 32 → length (held calls) ≡ 64
 
+-- the numbers of the questions: of the pair's own, theirs; "31 number already held, 32 tray full"; "33 number not held"
+pub record QuestionNumbers : Type 0 where
+  pub lent : number_of_refusal NotATray ≡ 5
+  pub pair : (number : ℕ) → number_of_refusal (Pair number) ≡ number
+  pub held : number_of_refusal NumberHeld ≡ 31
+  pub full : number_of_refusal TrayFull ≡ 32
+  pub not_held : number_of_refusal NumberNotHeld ≡ 33
+
 -- a take that is not refused: it gives a sample of that number, and just this sample is held less
 pub record GivesOut (tray : List ℕ) (number : ℕ) : Type 0 where
   pub sample : Sample
-  pub given : take_answer tray number ≡ taken.Out sample
+  pub given : take_answer tray number ≡ Ok sample
   pub number_is : sample.number ≡ number
   pub less : (test : Sample → Bool) → times test (held_in tray) ≡ times test (held_in (after tray (Take number))) + one (test sample)
 
 -- memory that is not just 512 numbers: 5, whatever is asked, and it is left as it is
 pub record OtherMemory (tray : List ℕ) (other : length tray ≡ 512 → ⊥) : Type 0 where
   pub put : (number u y : ℕ) → put_answer tray number u y ≡ answer.Refused 5
-  pub take : (number : ℕ) → take_answer tray number ≡ taken.Refused 5
+  pub take : (number : ℕ) → take_answer tray number ≡ Err NotATray
   pub left : (call : Call) → after tray call ≡ tray
 
 -- what holds of each call on any tray of 512 numbers, reached by calls or not
@@ -69,8 +77,8 @@ pub record EveryCall (tray : List ℕ) (lent : length tray ≡ 512) : Type 0 whe
       → (put_answer tray number u y ≡ answer_of u y)
       × ((test : Sample → Bool) → times test (held_in (after tray (Put number u y))) ≡ times test (held_in tray) + one (test (sample_with number u y (answer_of u y))))
   -- "33 number not held"
-  pub not_held : (number : ℕ) → held_as tray number ≡ 0 → take_answer tray number ≡ taken.Refused 33
+  pub not_held : (number : ℕ) → held_as tray number ≡ 0 → take_answer tray number ≡ Err NumberNotHeld
   pub taken_out : (number : ℕ) → 0 < held_as tray number → GivesOut tray number
   -- what was put in under a number is what is taken out under it: the pair as it was given, and its answer
   pub put_then_take : (number u y : ℕ) → refusal u y ≡ 0 → held_as tray number ≡ 0 → length (held_in tray) < 64
-      → take_answer (after tray (Put number u y)) number ≡ taken.Out (record { number = number; u = u; y = y; answer = answer_of u y })
+      → take_answer (after tray (Put number u y)) number ≡ Ok (record { number = number; u = u; y = y; answer = answer_of u y })

@@ -1,7 +1,7 @@
 -- Change request #102: what putting in and taking out answer, and the tray afterwards. "Refused: 31 number already held, 32 tray full, both after the pair's own
 -- questions; 33 number not held, on taking out." The lent memory is asked for its size first, as document 01 asks the pair's record. A sample's number has no bound
 -- here; that it has 32 bits, the operations say (#104: "The tray takes numbers up to 4,294,967,295"; before it was one byte).
-use Rattle.std.specs.Prelude.{ℕ, ◌*◌, Bool, cond, List, eqb, leb, ltb, length}
+use Rattle.std.specs.Prelude.{ℕ, ◌*◌, Bool, cond, List, eqb, ltb, length, Result, Ok, Err}
 use Rattle.laws.specs.Questions.{ask}
 use Rattle.index.specs.declared.answer.Answer.{Answer}
 use Rattle.index.specs.declared.answer.Answer.TheVariants as answer
@@ -13,8 +13,8 @@ use Rattle.tray_places.specs.declared.samples.Place.{Place}
 use Rattle.tray_places.specs.Samples.{place_of}
 use Rattle.tray_places.specs.Places.{places, place_size, tray_size, numbers_of, freed, sample_at, place_of_number, free_place, held_in}
 use Rattle.tray_places.specs.Counts.{times, numbered}
-use Rattle.tray.specs.declared.Taken.{Taken}
-use Rattle.tray.specs.declared.Taken.TheVariants.{Refused, Out}
+use Rattle.tray.specs.declared.refusal.Refusal.{Refusal}
+use Rattle.tray.specs.declared.refusal.Refusal.TheVariants.{NotATray, Pair, NumberHeld, TrayFull, NumberNotHeld}
 
 -- ---- the questions
 
@@ -30,6 +30,25 @@ full_refusal = 32
 
 abbrev pub not_held_refusal : ℕ
 not_held_refusal = 33
+
+-- the number of a refusal, and the refusal of a number
+abbrev pub number_of_refusal : Refusal → ℕ
+number_of_refusal NotATray = not_a_tray
+number_of_refusal (Pair number) = number
+number_of_refusal NumberHeld = held_refusal
+number_of_refusal TrayFull = full_refusal
+number_of_refusal NumberNotHeld = not_held_refusal
+
+abbrev pub refusal_of : ℕ → Refusal
+refusal_of number =
+    cond (eqb number not_a_tray) NotATray
+    (cond (eqb number held_refusal) NumberHeld
+    (cond (eqb number full_refusal) TrayFull
+    (cond (eqb number not_held_refusal) NumberNotHeld (Pair number))))
+
+-- what is answered where the questions gave that number, 0 where none refuses
+abbrev pub answered : {X : Type 0} → ℕ → X → Result X Refusal
+answered number x = cond (eqb number 0) (Ok x) (Err (refusal_of number))
 
 -- is the lent memory just 512 numbers?
 abbrev pub is_tray : List ℕ → Bool
@@ -61,10 +80,6 @@ put_refusal tray number u y = ask (is_tray tray) not_a_tray (hold_refusal tray n
 unfoldable pub take_refusal : List ℕ → ℕ → ℕ
 take_refusal tray number = ask (is_tray tray) not_a_tray (ask (ltb 0 (held_as tray number)) not_held_refusal 0)
 
--- the same questions by places, as the code asks them: the place where the number is held, and the first free one
-unfoldable pub first_no : ℕ → ℕ → ℕ → ℕ
-first_no pair at free = or_else pair (ask (leb places at) held_refusal (ask (ltb free places) full_refusal 0))
-
 -- ---- putting in
 
 abbrev pub sample_with : ℕ → ℕ → ℕ → Answer → Sample
@@ -81,6 +96,10 @@ tray_with tray s = tray_storing tray (place_of s)
 unfoldable pub tray_holding : List ℕ → ℕ → ℕ → Place → List ℕ
 tray_holding tray number pair place = cond (eqb (hold_refusal tray number pair) 0) (tray_storing tray place) tray
 
+-- and what is answered then, of a pair that its own questions do not refuse
+unfoldable pub hold_answer : List ℕ → ℕ → Result (Unit {0}) Refusal
+hold_answer tray number = answered (hold_refusal tray number 0) tt
+
 -- "Putting in takes a number, u and y and gives the pair's answer"
 unfoldable pub put_answer : List ℕ → ℕ → ℕ → ℕ → Answer
 put_answer tray number u y = cond (eqb (put_refusal tray number u y) 0) (answer_of u y) (answer.Refused (put_refusal tray number u y))
@@ -92,9 +111,8 @@ tray_after_put tray number u y = cond (eqb (put_refusal tray number u y) 0) (tra
 -- ---- taking out
 
 -- "taking out takes a number and gives the pair and answer held under it"
-unfoldable pub take_answer : List ℕ → ℕ → Taken
-take_answer tray number =
-    cond (eqb (take_refusal tray number) 0) (Out (sample_at tray (place_of_number tray number))) (Refused (take_refusal tray number))
+unfoldable pub take_answer : List ℕ → ℕ → Result Sample Refusal
+take_answer tray number = answered (take_refusal tray number) (sample_at tray (place_of_number tray number))
 
 unfoldable pub tray_after_take : List ℕ → ℕ → List ℕ
 tray_after_take tray number =

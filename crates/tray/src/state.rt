@@ -1,71 +1,52 @@
 // The state of a tray: what the samples held come to, found by a walk over the places.
-ghost use Rattle.std.specs.Prelude.{◌≡◌, ◌+◌, ◌*◌, ◌≤◌, length};
-ghost use Rattle.tray_places.specs.Places.{places, place_size, tray_size, held_in};
+ghost use Rattle.std.specs.Prelude.{◌≡◌, None};
+ghost use Rattle.tray_places.specs.Places.{places, held_in};
 ghost use Rattle.tray.specs.State.{state_after, state_of, RightState, with_place, summary_in, state_with};
 ghost use Rattle.index_summary.specs.Preconditions.{Within};
 
-use crate::NOT_A_TRAY;
-use index_summary::{Summary, joined, nothing};
-use tray_places::{PLACES, TRAY_SIZE, is_free, place_at, sample_of};
+use crate::Refusal;
+use index_summary::{Summary, is_of_none, joined, nothing};
+use tray_places::{PLACE_SIZE, Place, TRAY_SIZE, is_free, places_in};
 
-// What asking for the state answers: refused by the question of that number, that the tray is empty, or what it holds comes to.
-#[derive(Clone, Copy)]
-pub enum State {
-    Refused(u8),
-    Empty,
-    Holding(Summary),
-}
-
-// The summary with place i more.
-fn with_place(tray: &[u32], i: usize, t: Summary) -> Summary
-    requires { (place_size * i + place_size ≤ length tray.now) × Within places t }
-    ensures { result ≡ with_place tray.now i t }
+// The summary with one place more.
+fn with_place(place: &[u32; PLACE_SIZE], t: Summary) -> Summary
+    requires { Within places t }
+    ensures { result ≡ with_place place.now 0 t }
 {
-    if is_free(tray, i) {
+    if is_free(place) {
         return t;
     }
-    let sample = sample_of(place_at(tray, i));
-    let answer = sample.answer;
-    joined(t, answer)
+    joined(t, Place::from(place).answer())
 }
 
-// The summary of the samples held, place by place. An inner function, for callers that know the memory to be as large as a tray.
-pub fn walk(tray: &[u32]) -> Summary
-    requires { length tray.now ≡ tray_size }
-    ensures { result ≡ summary_in (state_after State.Empty (held_in tray.now)) }
+// The summary of the samples held, place by place.
+pub fn walk(tray: &[u32; TRAY_SIZE]) -> Summary
+    ensures { result ≡ summary_in (state_after None (held_in tray.now)) }
 {
     let mut t = nothing();
-    let mut i: usize = 0;
-    while i < PLACES {
-        t = with_place(tray, i, t);
-        i += 1;
+    for place in places_in(tray) {
+        t = with_place(place, t);
     }
     t
 }
 
-// The state with that summary: empty where nothing is counted.
-pub fn state_with(t: Summary) -> State
+// The state with that summary: none where nothing is counted.
+pub fn state_with(t: Summary) -> Option<Summary>
     ensures { result ≡ state_with t }
 {
-    if t.a != 0 {
-        return State::Holding(t);
+    if is_of_none(t) {
+        return None;
     }
-    if t.settled != 0 {
-        return State::Holding(t);
-    }
-    if t.near != 0 {
-        return State::Holding(t);
-    }
-    State::Empty
+    Some(t)
 }
 
-// The state of a tray.
-pub fn summary(tray: &[u32]) -> State
+// The state of a tray: what it holds comes to, none where it is empty.
+pub fn summary(tray: &[u32]) -> Result<Option<Summary>, Refusal>
     ensures value { result ≡ state_of tray.now }
     ensures right { RightState tray.now result }
 {
-    if tray.len() != TRAY_SIZE {
-        return State::Refused(NOT_A_TRAY);
-    }
-    state_with(walk(tray))
+    let Some(tray) = tray.as_array::<TRAY_SIZE>() else {
+        return Err(Refusal::NotATray);
+    };
+    Ok(state_with(walk(tray)))
 }
