@@ -6,6 +6,7 @@ use mathlib.Core.List.{List, [], ◌∷◌}
 use native.Mathlib.Omega.{arith}
 use borrow.Author.Tests.{eq-eqb, ne_eqb}
 use lib.ListN.{length}
+use Rattle.std.specs.Prelude.{None, Ok}
 use Rattle.laws.proofs.Order.{by_test}
 use Rattle.index.specs.declared.answer.Answer.TheVariants as answer
 use Rattle.index.specs.Questions.{refusal}
@@ -16,8 +17,6 @@ use Rattle.tray_places.specs.Counts.{one, times, numbered, same}
 use Rattle.tray_places.proofs.Held.{times_none, times_one}
 use Rattle.tray_places.proofs.Found.{empty_size, empty_holds}
 use Rattle.tray_places.proofs.Same.{itself, only}
-use Rattle.tray.specs.declared.Taken.TheVariants as taken
-use Rattle.tray.specs.declared.state.State.TheVariants as state
 use Rattle.tray.specs.Tray.{sample_with, put_answer, take_answer}
 use Rattle.tray.specs.State.{state_after, state_of}
 use Rattle.tray.specs.Calls.{Put, Take, Ask, ToPut, ToTake, ToAsk, after, answers_to}
@@ -67,7 +66,7 @@ put_empty number u y passed = put_into empty_tray [] number u y empty_held passe
 
 -- a number that is held under one sample alone gives that sample
 record TakenFrom (tray : List ℕ) (rest : List Sample) (s : Sample) : Type 0 where
-  given : take_answer tray s.number ≡ taken.Out s
+  given : take_answer tray s.number ≡ Ok s
   then : Holds (after tray (Take s.number)) rest
 
 take_from : (tray : List ℕ) (samples rest : List Sample) (s : Sample) → Holds tray samples
@@ -81,7 +80,7 @@ take_from tray samples rest s h apart alone =
     let there : one (same x x) ≡ 1 = ap one (itself x) in
     let is : x ≡ s = alone x (omega (arith, out.less (same x), h.each (same x), there)) out.number_is in
     record {
-      given = out.given ∙ ap taken.Out is;
+      given = out.given ∙ ap Ok is;
       then = record {
         size = (call_step tray (Take s.number) h.size).size;
         each = λ test.
@@ -95,7 +94,7 @@ no_samples : (samples : List Sample) → length samples ≡ 0 → samples ≡ []
 no_samples [] e = refl
 no_samples (s ∷ samples) e = absurd (omega arith)
 
-none_held : (tray : List ℕ) → Holds tray [] → state_of tray ≡ state.Empty
+none_held : (tray : List ℕ) → Holds tray [] → state_of tray ≡ Ok None
 unfolding state_of state_after
 none_held tray h = rw (eq-eqb (length tray) 512 h.size, no_samples (held_in tray) (count_held tray [] h))
 
@@ -143,7 +142,7 @@ module _ (m n u y v z : ℕ) (different : m ≡ n → ⊥) (passed : refusal u y
       (λ x p e. by_test (same x t) (only x t) (λ g. absurd (omega (arith, times_one (same x) t, ap one g))))
 
   two_samples : answers_to empty_tray (Put m u y ∷ Put n v z ∷ Take m ∷ Take n ∷ Ask ∷ [])
-      ≡ ToPut (answer_of u y) ∷ ToPut (answer_of v z) ∷ ToTake (taken.Out s) ∷ ToTake (taken.Out t) ∷ ToAsk state.Empty ∷ []
+      ≡ ToPut (answer_of u y) ∷ ToPut (answer_of v z) ∷ ToTake (Ok s) ∷ ToTake (Ok t) ∷ ToAsk (Ok None) ∷ []
   unfolding answers_to
   two_samples =
       rw (put_first.given, put_second.given, take_first.given, take_second.given, none_held (after (after both_in (Take m)) (Take n)) take_second.then)

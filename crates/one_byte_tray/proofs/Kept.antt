@@ -3,13 +3,13 @@ use Prim.Native.Nat.{ℕ, zero, suc}
 use mathlib.Core.Path.{◌≡◌, refl, ap, ◌∙◌}
 use mathlib.Core.Bool.{Bool}
 use mathlib.Core.List.{List, [], ◌∷◌}
+use Rattle.std.specs.Prelude.{Option, Some, None}
 use Rattle.index.specs.ChosenAnswer.{answer_of}
+use Rattle.index_summary.specs.declared.Summary.{Summary}
 use Rattle.tray_places.specs.declared.samples.Sample.{Sample}
 use Rattle.tray_places.specs.Samples.{place_of, answer_from}
 use Rattle.tray_places.specs.Places.{places, numbers_of, freed, empty_tray, is_held, sample_at, is_held_as, is_free, first, among, held_in, place_of_number, free_place}
 use Rattle.tray_places.specs.Counts.{times, numbered}
-use Rattle.tray.specs.declared.state.State.{State}
-use Rattle.tray.specs.declared.state.State.TheVariants as state
 use Rattle.tray.specs.Tray.{sample_with, hold_refusal, put_refusal, take_refusal, put_answer, tray_after_put, take_answer, tray_after_take}
 use Rattle.tray.specs.State.{with_answer, state_after, state_of}
 use Rattle.one_byte_tray.specs.OneByteTray as one_byte
@@ -83,13 +83,12 @@ pub after_take_same : (tray : List ℕ) (number : ℕ) → tray_after_take tray 
 unfolding tray_after_take one_byte.tray_after_take freed one_byte.freed
 after_take_same tray number = rw (take_questions_same tray number, place_same tray number)
 
-walk_same : (start : State) (samples : List Sample) → state_after start samples ≡ one_byte.state_after start samples
+walk_same : (start : Option Summary) (samples : List Sample) → state_after start samples ≡ one_byte.state_after start samples
 unfolding state_after one_byte.state_after
 walk_same start [] = refl
-walk_same (state.Refused number) (s ∷ samples) = walk_same (state.Refused number) samples
-walk_same state.Empty (s ∷ samples) = walk_same (with_answer state.Empty s.answer) samples
-walk_same (state.Holding t) (s ∷ samples) = walk_same (with_answer (state.Holding t) s.answer) samples
+walk_same None (s ∷ samples) = walk_same (with_answer None s.answer) samples
+walk_same (Some t) (s ∷ samples) = walk_same (with_answer (Some t) s.answer) samples
 
 pub state_same : (tray : List ℕ) → state_of tray ≡ one_byte.state_of tray
 unfolding state_of one_byte.state_of
-state_same tray = rw (walk_same state.Empty (held_in tray), held_same tray)
+state_same tray = rw (walk_same None (held_in tray), held_same tray)

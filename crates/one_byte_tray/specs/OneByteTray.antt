@@ -1,9 +1,9 @@
 -- The tray of change request #102 as it was before #104, kept as what the tray is compared with: "each with a number of one byte", in 64 places of eight numbers.
--- Each definition has the name and the text that it had in tray_places and tray (a constructor may have the name of its type before it), but for `after`, which goes
--- by `one_byte`; new are `one_byte`, `call_answer` and `answers_to`, which run a list of calls. No contract cites them. They share the types of a call and of what it
+-- Each definition has the name and the text that it had in tray_places and tray (a constructor may have the name of its type before it, and what a take and the
+-- state answer is said in the tray's types), but for `after`, which goes by `one_byte`; new are `one_byte`, `call_answer` and `answers_to`, which run a list of calls. No contract cites them. They share the types of a call and of what it
 -- answers with the tray, for two lists of answers could not be compared otherwise; and what is no part of a tray: the pair's answer and its questions, a
 -- question's form, a summary with one answer more, two's complement, numbers stored in a list.
-use Rattle.std.specs.Prelude.{ℕ, zero, suc, ◌+◌, ◌*◌, ◌%◌, Bool, cond, not, ◌&&◌, List, [], ◌∷◌, ◌++◌, eqb, ltb, length, get_or, replicate}
+use Rattle.std.specs.Prelude.{ℕ, zero, suc, ◌+◌, ◌*◌, ◌%◌, Bool, cond, not, ◌&&◌, List, [], ◌∷◌, ◌++◌, eqb, ltb, length, get_or, replicate, Option, Some, None, Result, Ok, Err}
 use Rattle.laws.specs.Questions.{ask}
 use Rattle.shown_index.specs.declared.Mark.{Mark}
 use Rattle.shown_index.specs.declared.Mark.TheVariants.{Settled, Near}
@@ -13,12 +13,11 @@ use Rattle.index.specs.Questions.{refusal}
 use Rattle.index.specs.Answer.{method_of, index_of, lower_of, upper_of}
 use Rattle.index.specs.ChosenAnswer.{answer_of}
 use Rattle.answer_record.specs.Bytes.{twos_complement, signed_of, stored}
+use Rattle.index_summary.specs.declared.Summary.{Summary}
 use Rattle.index_summary.specs.Summary.{alone_of, joined_of}
 use Rattle.tray_places.specs.declared.samples.Sample.{Sample}
-use Rattle.tray.specs.declared.Taken.{Taken}
-use Rattle.tray.specs.declared.Taken.TheVariants as taken
-use Rattle.tray.specs.declared.state.State.{State}
-use Rattle.tray.specs.declared.state.State.TheVariants as state
+use Rattle.tray.specs.declared.refusal.Refusal.{Refusal}
+use Rattle.tray.specs.Tray.{refusal_of}
 use Rattle.tray.specs.Calls.{Call, Put, Take, Ask, CallAnswer, ToPut, ToTake, ToAsk}
 
 -- ---- its layout
@@ -210,26 +209,25 @@ unfoldable pub tray_after_put : List ℕ → ℕ → ℕ → ℕ → List ℕ
 tray_after_put tray number u y = cond (eqb (put_refusal tray number u y) 0) (tray_with tray (sample_with number u y (answer_of u y))) tray
 
 -- "taking out takes a number and gives the pair and answer held under it"
-unfoldable pub take_answer : List ℕ → ℕ → Taken
+unfoldable pub take_answer : List ℕ → ℕ → Result Sample Refusal
 take_answer tray number =
-    cond (eqb (take_refusal tray number) 0) (taken.Out (sample_at tray (place_of_number tray number))) (taken.Refused (take_refusal tray number))
+    cond (eqb (take_refusal tray number) 0) (Ok (sample_at tray (place_of_number tray number))) (Err (refusal_of (take_refusal tray number)))
 
 unfoldable pub tray_after_take : List ℕ → ℕ → List ℕ
 tray_after_take tray number =
     cond (eqb (take_refusal tray number) 0) (stored tray (place_size * place_of_number tray number) freed) tray
 
 -- a state with one answer more, after a list of samples, and of a tray
-abbrev pub with_answer : State → Answer → State
-with_answer (state.Refused number) answer = state.Refused number
-with_answer state.Empty answer = state.Holding (alone_of answer)
-with_answer (state.Holding t) answer = state.Holding (joined_of t answer)
+abbrev pub with_answer : Option Summary → Answer → Option Summary
+with_answer None answer = Some (alone_of answer)
+with_answer (Some t) answer = Some (joined_of t answer)
 
-unfoldable pub state_after : State → List Sample → State
+unfoldable pub state_after : Option Summary → List Sample → Option Summary
 state_after state [] = state
 state_after state (s ∷ samples) = state_after (with_answer state s.answer) samples
 
-unfoldable pub state_of : List ℕ → State
-state_of tray = cond (is_tray tray) (state_after state.Empty (held_in tray)) (state.Refused not_a_tray)
+unfoldable pub state_of : List ℕ → Result (Option Summary) Refusal
+state_of tray = cond (is_tray tray) (Ok (state_after None (held_in tray))) (Err (refusal_of not_a_tray))
 
 -- ---- running a list of calls
 
