@@ -6,17 +6,18 @@ use native.Mathlib.Omega.{arith}
 use borrow.Author.Tests.{eq-eqb}
 use lib.IntN.{ℤ, pos}
 use lib.ListN.{length}
+use Rattle.std.specs.Prelude.{Option, Some, None, Result, Ok, Err}
 use Rattle.index.specs.Questions.{refusal}
 use Rattle.index.specs.Answer.{number_of}
 use Rattle.index.specs.ChosenAnswer.{answer_of}
 use Rattle.index.proofs.Right.{right}
+use Rattle.index_summary.specs.declared.Summary.{Summary}
 use Rattle.tray_places.specs.Places.{held_in}
 use Rattle.tray_places.specs.Counts.{one, times}
-use Rattle.tray.specs.declared.state.State.{State}
-use Rattle.tray.specs.declared.state.State.TheVariants as state
+use Rattle.tray.specs.declared.refusal.Refusal.{Refusal}
 use Rattle.tray.specs.Tray.{held_as, put_answer, take_answer, tray_after_take}
 use Rattle.tray.specs.State.{state_of, RightState}
-use Rattle.tray.specs.Calls.{taken_number, state_number}
+use Rattle.tray.specs.Calls.{refused_by}
 use Rattle.tray.proofs.Walk.{state_right}
 use Rattle.tray.proofs.EveryList.{every_call}
 use Rattle.tray_calls.specs.TrayCalls.{record_with, put_number, record_put, pair_with, record_from, row_with}
@@ -30,11 +31,11 @@ module _ (tray lent pair : List ℕ) (row : List ℤ) (t : length tray ≡ 512) 
   record_answered : (n u y : ℕ) → record_put tray lent n u y ≡ record_with lent (put_answer tray n u y)
   record_answered n u y = sym (put_done tray lent n u y (put_answer tray n u y) h refl refl refl refl).1.1
 
-  taken_done : (n : ℕ) → TakeLeaves tray pair lent n (taken_number (take_answer tray n)) (tray_after_take tray n) (pair_with pair (take_answer tray n))
+  taken_done : (n : ℕ) → TakeLeaves tray pair lent n (refused_by (take_answer tray n)) (tray_after_take tray n) (pair_with pair (take_answer tray n))
       (record_from lent (take_answer tray n))
   taken_done n = take_done tray pair lent n (take_answer tray n) e h refl refl refl refl
 
-  asked_done : SummaryLeaves tray row (state_number (state_of tray)) (row_with row (state_of tray))
+  asked_done : SummaryLeaves tray row (refused_by (state_of tray)) (row_with row (state_of tray))
   asked_done = summary_done tray row (state_of tray) w refl refl
 
   in_put : (n u y : ℕ) → refusal u y ≡ 0 → held_as tray n ≡ 0 → length (held_in tray) < 64 → PutIn tray lent n u y
@@ -62,21 +63,21 @@ module _ (tray lent pair : List ℕ) (row : List ℤ) (t : length tray ≡ 512) 
       record {
         sample = g.sample;
         number_is = g.number_is;
-        answered = sym done.0 ∙ ap taken_number g.given;
+        answered = sym done.0 ∙ ap refused_by g.given;
         paired = sym done.1.1.0 ∙ ap (pair_with pair) g.given;
         filled = sym done.1.1.1 ∙ ap (record_from lent) g.given;
         less = λ test. g.less test ∙ ap (λ (m : List ℕ). times test (held_in m) + one (test g.sample)) done.1.0;
       }
 
-  state_0 : (st : State) → RightState tray st → state_number st ≡ 0
-  state_0 (state.Refused k) r = absurd (r.1 t)
-  state_0 state.Empty r = refl
-  state_0 (state.Holding s) r = refl
+  state_0 : (st : Result (Option Summary) Refusal) → RightState tray st → refused_by st ≡ 0
+  state_0 (Err k) r = absurd (r.1 t)
+  state_0 (Ok None) r = refl
+  state_0 (Ok (Some s)) r = refl
 
-  right_row : (st : State) → RightState tray st → 0 < length (held_in tray) → RightRow tray (row_with row st)
-  right_row (state.Refused k) r p = absurd (r.1 t)
-  right_row state.Empty r p = absurd (omega (arith, ap length r.1))
-  right_row (state.Holding s) r p = record {
+  right_row : (st : Result (Option Summary) Refusal) → RightState tray st → 0 < length (held_in tray) → RightRow tray (row_with row st)
+  right_row (Err k) r p = absurd (r.1 t)
+  right_row (Ok None) r p = absurd (omega (arith, ap length r.1))
+  right_row (Ok (Some s)) r p = record {
     summary = s;
     right = r.1;
     row_is = ap (λ (k : ℕ). pos k ∷ s.lowest ∷ s.highest ∷ s.sum ∷ pos s.a ∷ pos s.settled ∷ pos s.near ∷ []) r.2;
@@ -89,7 +90,7 @@ module _ (tray lent pair : List ℕ) (row : List ℤ) (t : length tray ≡ 512) 
     tray_full = λ n u y z k f. number_answered n u y ∙ ap number_of ((every_call tray t).tray_full n u y z k f);
     put_in = in_put;
     not_held = λ n z.
-        sym (taken_done n).0 ∙ ap taken_number ((every_call tray t).not_held n z);
+        sym (taken_done n).0 ∙ ap refused_by ((every_call tray t).not_held n z);
     taken_out = out_taken;
     asked = sym asked_done.0 ∙ state_0 (state_of tray) (state_right tray);
     row_right = λ p. subst (RightRow tray) asked_done.1 (right_row (state_of tray) (state_right tray) p);

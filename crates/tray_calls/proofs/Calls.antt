@@ -1,11 +1,12 @@
 -- What the calls answer and leave, by the sizes of what is lent and by what the tray answers.
 use Prim.Native.Nat.{ℕ, ◌<◌}
 use mathlib.Core.Path.{◌≡◌, refl, sym, ap, ◌∙◌}
-use mathlib.Core.List.{List, [], ◌∷◌}
+use mathlib.Core.List.{List}
 use native.Mathlib.Omega.{arith}
 use borrow.Author.Tests.{eq-eqb, ne_eqb}
 use lib.IntN.{ℤ}
-use lib.ListN.{length, get_or, set}
+use lib.ListN.{length, get_or}
+use Rattle.std.specs.Prelude.{Option, Result, Ok, Err}
 use mir.Facts.{to_z_pos}
 use mir.Syntax.{w32, w64}
 use mir.Val.{to_z, of_z, SFits}
@@ -16,43 +17,22 @@ use Rattle.index.specs.Answer.{number_of, method_of, index_of, lower_of, upper_o
 use Rattle.index.specs.ChosenAnswer.{answer_of}
 use Rattle.index.proofs.Fits.{fits}
 use Rattle.index.proofs.Right.{right}
-use Rattle.answer_record.specs.Bytes.{number_at, twos_complement, stored}
-use Rattle.answer_record.specs.Record.{result_size, method_offset, index_offset, lower_offset, upper_offset, laid_out_bytes, record_of}
+use Rattle.answer_record.specs.Bytes.{number_at, twos_complement}
+use Rattle.answer_record.specs.Record.{result_size, method_offset, index_offset, lower_offset, upper_offset, record_of}
 use Rattle.answer_record.proofs.Fields.{laid_refusal, laid_method, laid_index, laid_lower, laid_upper}
-use Rattle.answer_record.proofs.Records.{whole}
 use Rattle.answer_record.proofs.Signed.{twos_complement_fits}
 use Rattle.index_summary.specs.declared.Summary.{Summary}
 use Rattle.index_summary.proofs.Fits.{back}
+use Rattle.tray_places.specs.declared.samples.Sample.{Sample}
 use Rattle.tray_places.specs.declared.samples.Place.{Place}
 use Rattle.tray_places.specs.Samples.{place_of}
 use Rattle.tray_places.specs.Places.{tray_size}
-use Rattle.tray.specs.declared.Taken.{Taken}
-use Rattle.tray.specs.declared.state.State.{State}
-use Rattle.tray.specs.Tray.{hold_refusal, sample_with, tray_holding, put_answer, tray_after_put, take_answer, tray_after_take}
-use Rattle.tray.proofs.Questions.{pair_none, put_5, put_refused, put_held}
+use Rattle.tray.specs.declared.refusal.Refusal.{Refusal}
+use Rattle.tray.specs.Tray.{number_of_refusal, hold_answer, sample_with, tray_holding, put_answer, tray_after_put, take_answer, tray_after_take}
+use Rattle.tray.proofs.Questions.{hold_some, put_5, put_pair, put_refused, put_held}
 use Rattle.tray.specs.State.{state_of}
-use Rattle.tray.specs.Calls.{taken_number, state_number}
+use Rattle.tray.specs.Calls.{refused_by}
 use Rattle.tray_calls.specs.TrayCalls.{not_its_size, record_with, place_from, put_number, tray_put, record_put, pair_size, pair_with, record_from, take_number, tray_taken, pair_taken, record_taken, row_size, row_of, held_of, summary_row, row_with, summary_number, summary_after}
-
--- ---- stores that fill a whole memory
-
-pub pair_stored : (l : List ℕ) (u y : ℕ) → length l ≡ pair_size → set (set l 0 u) 1 y ≡ u ∷ y ∷ []
-pair_stored [] u y e = absurd (omega arith)
-pair_stored (x ∷ []) u y e = absurd (omega arith)
-pair_stored (x ∷ z ∷ []) u y e = refl
-pair_stored (x ∷ z ∷ w ∷ l) u y e = absurd (omega arith)
-
-pub row_stored : (l : List ℤ) (a b c d e f g : ℤ) → length l ≡ row_size
-    → set (set (set (set (set (set (set l 0 a) 1 b) 2 c) 3 d) 4 e) 5 f) 6 g ≡ row_of a b c d e f g
-row_stored [] a b c d e f g h = absurd (omega arith)
-row_stored (p ∷ []) a b c d e f g h = absurd (omega arith)
-row_stored (p ∷ q ∷ []) a b c d e f g h = absurd (omega arith)
-row_stored (p ∷ q ∷ r ∷ []) a b c d e f g h = absurd (omega arith)
-row_stored (p ∷ q ∷ r ∷ s ∷ []) a b c d e f g h = absurd (omega arith)
-row_stored (p ∷ q ∷ r ∷ s ∷ t ∷ []) a b c d e f g h = absurd (omega arith)
-row_stored (p ∷ q ∷ r ∷ s ∷ t ∷ u ∷ []) a b c d e f g h = absurd (omega arith)
-row_stored (p ∷ q ∷ r ∷ s ∷ t ∷ u ∷ v ∷ []) a b c d e f g h = refl
-row_stored (p ∷ q ∷ r ∷ s ∷ t ∷ u ∷ v ∷ w ∷ l) a b c d e f g h = absurd (omega arith)
 
 -- a summary's numbers as the code hands them on
 pub summary_stored : (t : Summary) {after : List ℤ} → SFits w64 t.lowest → SFits w64 t.highest → SFits w64 t.sum → t.a < span32 → t.settled < span32
@@ -89,12 +69,6 @@ module _ (tray lent : List ℕ) (n u y : ℕ) where
   put_done a h e f m g =
       (simp (eq-eqb _ _ h) (m ∙ ap number_of e), (simp (eq-eqb _ _ h) f, simp (eq-eqb _ _ h) (g ∙ ap (record_with lent) e)))
 
--- the fields of the place of an answered pair are those of its record
-laid_again : (n u y : ℕ) (a : Answer) (p : Place) {method : ℕ} → number_of a ≡ 0 → method ≡ method_of a → p ≡ place_of (sample_with n u y a)
-    → laid_out_bytes 0 method p.index p.lower p.upper ≡ record_of a
-unfolding place_of
-laid_again n u y a p z m e = rw (m, e, z)
-
 -- of a pair whose answer stands in a record
 module _ (tray lent : List ℕ) (n u y : ℕ) {filled : List ℕ} (Filled-is : filled ≡ record_of (answer_of u y)) where
   small : SFits w32 (index_of (answer_of u y))
@@ -106,36 +80,42 @@ module _ (tray lent : List ℕ) (n u y : ℕ) {filled : List ℕ} (Filled-is : f
   method_there : get_or filled method_offset 0 ≡ method_of (answer_of u y)
   method_there = rw Filled-is (laid_method _ _ _ _ _)
 
-  place_there : {method : ℕ} {p : Place} → method ≡ get_or filled method_offset 0 → p ≡ place_from filled method n u y → p ≡ place_of (sample_with n u y (answer_of u y))
+  place_there : {p : Place} → p ≡ place_from filled n u y → p ≡ place_of (sample_with n u y (answer_of u y))
   unfolding place_from place_of
-  place_there {method} {p} m e =
+  place_there {p} e =
       let i : number_at filled index_offset ≡ twos_complement (index_of (answer_of u y)) =
       rw Filled-is (laid_index _ _ _ _ _ (twos_complement_fits (index_of (answer_of u y)) small)) in
       let l : number_at filled lower_offset ≡ lower_of (answer_of u y) = rw Filled-is (laid_lower _ _ _ _ _ (fits u y).lower) in
       let h : number_at filled upper_offset ≡ upper_of (answer_of u y) = rw Filled-is (laid_upper _ _ _ _ _ (fits u y).upper) in
-      e ∙ rw (m, method_there, i, l, h)
+      e ∙ rw (method_there, i, l, h)
 
   pub put_no_tray : length lent ≡ result_size → (length tray ≡ tray_size → ⊥) → PutLeaves tray lent n u y not_its_size tray lent
   put_no_tray h t =
       let by = put_5 tray n u y t in
       put_done tray lent n u y (answer.Refused 5) h by.0 by.1 refl refl
 
-  module _ {k pair method : ℕ} {p : Place} {m : List ℕ} (h : length lent ≡ result_size) (t : length tray ≡ tray_size) (pair_is : pair ≡ get_or filled 0 0)
-      (method-is : method ≡ get_or filled method_offset 0) (p-is : p ≡ place_from filled method n u y) (k_is : k ≡ hold_refusal tray n pair)
-      (m-is : m ≡ tray_holding tray n pair p) where
-    pub put_not_held : (k ≡ 0 → ⊥) → PutLeaves tray lent n u y k m lent
-    put_not_held z =
-        let by = put_refused tray n u y t refl (right u y) (pair_is ∙ number_there) (place_there method-is p-is) k_is m-is z in
-        put_done tray lent n u y (answer.Refused k) h by.0 by.1 refl (sym (rw (ne_eqb k 0 z)))
+  module _ (h : length lent ≡ result_size) (t : length tray ≡ tray_size) where
+    pub put_by_pair : (get_or filled 0 0 ≡ 0 → ⊥) → PutLeaves tray lent n u y (get_or filled 0 0) tray lent
+    put_by_pair z =
+        let some : number_of (answer_of u y) ≡ 0 → ⊥ = λ e. z (number_there ∙ e) in
+        let by = put_pair tray n u y t refl (right u y) some in
+        put_done tray lent n u y (answer_of u y) h by.0 by.1 number_there (sym (rw (ne_eqb (number_of (answer_of u y)) 0 some)))
 
-    pub put_in : {after : List ℕ} → k ≡ 0 → after ≡ stored lent 0 (laid_out_bytes 0 method p.index p.lower p.upper) → PutLeaves tray lent n u y 0 m after
-    put_in {after} z e =
-        let by = put_held tray n u y t refl (right u y) (pair_is ∙ number_there) (place_there method-is p-is) k_is m-is z in
-        let none : number_of (answer_of u y) ≡ 0 = sym (pair_is ∙ number_there) ∙ pair_none tray n pair (sym k_is ∙ z) in
-        let laid : laid_out_bytes 0 method p.index p.lower p.upper ≡ record_of (answer_of u y) =
-        laid_again n u y (answer_of u y) p none (method-is ∙ method_there) (place_there method-is p-is) in
-        let is : after ≡ record_of (answer_of u y) = whole lent after (answer_of u y) h (e ∙ ap (stored lent 0) laid) in
-        put_done tray lent n u y (answer_of u y) h by.0 by.1 (sym none) (is ∙ sym (rw (eq-eqb (number_of (answer_of u y)) 0 none)))
+    module _ {p : Place} {m : List ℕ} (z : get_or filled 0 0 ≡ 0) (p-is : p ≡ place_from filled n u y) (m-is : m ≡ tray_holding tray n 0 p) where
+      passed : number_of (answer_of u y) ≡ 0
+      passed = sym number_there ∙ z
+
+      pub put_not_held : {r : Refusal} → Err r ≡ hold_answer tray n → PutLeaves tray lent n u y (number_of_refusal r) m lent
+      put_not_held {r} e =
+          let by = put_refused tray n u y t refl (right u y) passed (place_there p-is) m-is e in
+          let some : 0 < number_of_refusal r = hold_some tray n e in
+          put_done tray lent n u y (answer.Refused (number_of_refusal r)) h by.0 by.1 refl
+          (sym (rw (ne_eqb (number_of_refusal r) 0 (λ (q : number_of_refusal r ≡ 0). omega arith))))
+
+      pub put_in : {after : List ℕ} → Ok tt ≡ hold_answer tray n → after ≡ filled → PutLeaves tray lent n u y 0 m after
+      put_in {after} e f =
+          let by = put_held tray n u y t refl (right u y) passed (place_there p-is) m-is e in
+          put_done tray lent n u y (answer_of u y) h by.0 by.1 (sym passed) (f ∙ Filled-is ∙ sym (rw (eq-eqb (number_of (answer_of u y)) 0 passed)))
 
 -- ---- taking out
 
@@ -156,11 +136,11 @@ module _ (tray pair lent : List ℕ) (n : ℕ) where
     (simp (eq-eqb _ _ e, ne_eqb _ _ h), (simp (eq-eqb _ _ e, ne_eqb _ _ h), simp (eq-eqb _ _ e, ne_eqb _ _ h))),
   )
 
-  pub take_done : (t : Taken) {after paired recorded : List ℕ} → length pair ≡ pair_size → length lent ≡ result_size → t ≡ take_answer tray n
-      → after ≡ tray_after_take tray n → paired ≡ pair_with pair t → recorded ≡ record_from lent t → TakeLeaves (taken_number t) after paired recorded
+  pub take_done : (t : Result Sample Refusal) {after paired recorded : List ℕ} → length pair ≡ pair_size → length lent ≡ result_size → t ≡ take_answer tray n
+      → after ≡ tray_after_take tray n → paired ≡ pair_with pair t → recorded ≡ record_from lent t → TakeLeaves (refused_by t) after paired recorded
   unfolding take_number tray_taken pair_taken record_taken
   take_done t e h is f p r = (
-    simp (eq-eqb _ _ e, eq-eqb _ _ h) (ap taken_number is),
+    simp (eq-eqb _ _ e, eq-eqb _ _ h) (ap refused_by is),
     (
       simp (eq-eqb _ _ e, eq-eqb _ _ h) f,
       (simp (eq-eqb _ _ e, eq-eqb _ _ h) (p ∙ ap (pair_with pair) is), simp (eq-eqb _ _ e, eq-eqb _ _ h) (r ∙ ap (record_from lent) is)),
@@ -177,7 +157,7 @@ module _ (tray : List ℕ) (row : List ℤ) where
   unfolding summary_number summary_after
   summary_other h = (simp (ne_eqb _ _ h), simp (ne_eqb _ _ h))
 
-  pub summary_done : (st : State) {after : List ℤ} → length row ≡ row_size → st ≡ state_of tray → after ≡ row_with row st
-      → SummaryLeaves (state_number st) after
+  pub summary_done : (st : Result (Option Summary) Refusal) {after : List ℤ} → length row ≡ row_size → st ≡ state_of tray → after ≡ row_with row st
+      → SummaryLeaves (refused_by st) after
   unfolding summary_number summary_after
-  summary_done st e is f = (simp (eq-eqb _ _ e) (ap state_number is), simp (eq-eqb _ _ e) (f ∙ ap (row_with row) is))
+  summary_done st e is f = (simp (eq-eqb _ _ e) (ap refused_by is), simp (eq-eqb _ _ e) (f ∙ ap (row_with row) is))

@@ -7,6 +7,7 @@ use borrow.Author.Tests.{ne_eqb, eqb-true, eqb-false}
 use lib.Dec.{eqb}
 use lib.IntN.{ℤ, pos}
 use lib.ListN.{length}
+use Rattle.std.specs.Prelude.{Option, Some, None, Result, Ok, Err}
 use Rattle.laws.proofs.Order.{by_test}
 use Rattle.index.specs.declared.answer.Answer.{Answer}
 use Rattle.index.specs.Answer.{number_of}
@@ -15,13 +16,10 @@ use Rattle.index_summary.specs.declared.Summary.{Summary}
 use Rattle.index_summary.specs.Summary.{SummaryOf}
 use Rattle.tray_places.specs.declared.samples.Sample.{Sample}
 use Rattle.tray_places.specs.Places.{tray_size, held_in}
-use Rattle.tray.specs.declared.Taken.{Taken}
-use Rattle.tray.specs.declared.Taken.TheVariants as taken
-use Rattle.tray.specs.declared.state.State.{State}
-use Rattle.tray.specs.declared.state.State.TheVariants as state
-use Rattle.tray.specs.Tray.{put_answer, tray_after_put, take_answer, tray_after_take}
+use Rattle.tray.specs.declared.refusal.Refusal.{Refusal}
+use Rattle.tray.specs.Tray.{number_of_refusal, put_answer, tray_after_put, take_answer, tray_after_take}
 use Rattle.tray.specs.State.{state_of, RightState}
-use Rattle.tray.specs.Calls.{Put, Take, taken_number, state_number}
+use Rattle.tray.specs.Calls.{Put, Take, refused_by}
 use Rattle.tray.proofs.Questions.{put_5, take_5}
 use Rattle.tray.proofs.Walk.{state_right}
 use Rattle.tray.proofs.EveryList.{every_call}
@@ -38,7 +36,7 @@ put_left : (tray : List ℕ) (n u y : ℕ) → 0 < number_of (put_answer tray n 
 put_left tray n u y p =
     by_equal (length tray) tray_size (λ h. (every_call tray h).unchanged (Put n u y) p) (λ h. sym (put_5 tray n u y h).1)
 
-take_left : (tray : List ℕ) (n : ℕ) → 0 < taken_number (take_answer tray n) → tray_after_take tray n ≡ tray
+take_left : (tray : List ℕ) (n : ℕ) → 0 < refused_by (take_answer tray n) → tray_after_take tray n ≡ tray
 take_left tray n p =
     by_equal (length tray) tray_size (λ h. (every_call tray h).unchanged (Take n) p) (λ h. sym (take_5 tray n h).1)
 
@@ -47,39 +45,39 @@ take_left tray n p =
 record_left : (lent : List ℕ) (a : Answer) → 0 < number_of a → record_with lent a ≡ lent
 record_left lent a p = rw (ne_eqb (number_of a) 0 (λ (z : number_of a ≡ 0). omega arith))
 
-pair_left : (pair : List ℕ) (t : Taken) → 0 < taken_number t → pair_with pair t ≡ pair
-pair_left pair (taken.Refused k) p = refl
-pair_left pair (taken.Out s) p = absurd (omega arith)
+pair_left : (pair : List ℕ) (t : Result Sample Refusal) → 0 < refused_by t → pair_with pair t ≡ pair
+pair_left pair (Err k) p = refl
+pair_left pair (Ok s) p = absurd (omega arith)
 
-taken_left : (lent : List ℕ) (t : Taken) → 0 < taken_number t → record_from lent t ≡ lent
-taken_left lent (taken.Refused k) p = refl
-taken_left lent (taken.Out s) p = absurd (omega arith)
+taken_left : (lent : List ℕ) (t : Result Sample Refusal) → 0 < refused_by t → record_from lent t ≡ lent
+taken_left lent (Err k) p = refl
+taken_left lent (Ok s) p = absurd (omega arith)
 
-row_left : (row : List ℤ) (st : State) → 0 < state_number st → row_with row st ≡ row
-row_left row (state.Refused k) p = refl
-row_left row state.Empty p = absurd (omega arith)
-row_left row (state.Holding t) p = absurd (omega arith)
+row_left : (row : List ℤ) (st : Result (Option Summary) Refusal) → 0 < refused_by st → row_with row st ≡ row
+row_left row (Err k) p = refl
+row_left row (Ok None) p = absurd (omega arith)
+row_left row (Ok (Some t)) p = absurd (omega arith)
 
 -- ---- the state
 
 module _ (tray : List ℕ) where
-  state_5 : (st : State) → RightState tray st → (length tray ≡ 512 → ⊥) → state_number st ≡ 5
-  state_5 (state.Refused k) r h = r.0
-  state_5 state.Empty r h = absurd (h r.0)
-  state_5 (state.Holding t) r h = absurd (h r.0)
+  state_5 : (st : Result (Option Summary) Refusal) → RightState tray st → (length tray ≡ 512 → ⊥) → refused_by st ≡ 5
+  state_5 (Err k) r h = ap number_of_refusal r.0
+  state_5 (Ok None) r h = absurd (h r.0)
+  state_5 (Ok (Some t)) r h = absurd (h r.0)
 
-  first_held : (row : List ℤ) (st : State) → RightState tray st → state_number st ≡ 0 → first_of (row_with row st) ≡ pos (length (held_in tray))
-  first_held row (state.Refused k) r z = absurd (omega (arith, z, r.0))
-  first_held row state.Empty r z = sym (ap (λ (xs : List Sample). pos (length xs)) r.1)
-  first_held row (state.Holding t) r z = ap pos r.2
+  first_held : (row : List ℤ) (st : Result (Option Summary) Refusal) → RightState tray st → refused_by st ≡ 0 → first_of (row_with row st) ≡ pos (length (held_in tray))
+  first_held row (Err k) r z = absurd (omega (arith, z, ap number_of_refusal r.0))
+  first_held row (Ok None) r z = sym (ap (λ (xs : List Sample). pos (length xs)) r.1)
+  first_held row (Ok (Some t)) r z = ap pos r.2
 
   none_summarized : (xs : List Sample) (t : Summary) → xs ≡ [] → SummaryOf (map (λ (s : Sample). s.answer) xs) t → ⊥
   none_summarized xs t e s = rw e at s.lowest_held
 
-  row_empty : (row : List ℤ) (st : State) → RightState tray st → state_number st ≡ 0 → held_in tray ≡ [] → row_with row st ≡ empty_row
-  row_empty row (state.Refused k) r z e = absurd (omega (arith, z, r.0))
-  row_empty row state.Empty r z e = refl
-  row_empty row (state.Holding t) r z e = absurd (none_summarized (held_in tray) t e r.1)
+  row_empty : (row : List ℤ) (st : Result (Option Summary) Refusal) → RightState tray st → refused_by st ≡ 0 → held_in tray ≡ [] → row_with row st ≡ empty_row
+  row_empty row (Err k) r z e = absurd (omega (arith, z, ap number_of_refusal r.0))
+  row_empty row (Ok None) r z e = refl
+  row_empty row (Ok (Some t)) r z e = absurd (none_summarized (held_in tray) t e r.1)
 
 module _ (tray lent pair : List ℕ) (row : List ℤ) where
   put_refused : (n u y : ℕ) → 0 < put_number tray lent n u y → (tray_put tray lent n u y ≡ tray) × (record_put tray lent n u y ≡ lent)
@@ -99,7 +97,7 @@ module _ (tray lent pair : List ℕ) (row : List ℤ) where
       by_equal (length lent) result_size
       (λ h.
       let done = take_done tray pair lent n (take_answer tray n) e h refl refl refl refl in
-      let refused : 0 < taken_number (take_answer tray n) = omega (arith, done.0) in (
+      let refused : 0 < refused_by (take_answer tray n) = omega (arith, done.0) in (
         sym done.1.0 ∙ take_left tray n refused,
         sym done.1.1.0 ∙ pair_left pair (take_answer tray n) refused,
         sym done.1.1.1 ∙ taken_left lent (take_answer tray n) refused,
@@ -131,7 +129,7 @@ module _ (tray lent pair : List ℕ) (row : List ℤ) where
         by_equal (length pair) pair_size
         (λ d.
         by_equal (length lent) result_size
-        (λ e. sym (take_done tray pair lent n (take_answer tray n) d e refl refl refl refl).0 ∙ ap taken_number (sym (take_5 tray n h).0))
+        (λ e. sym (take_done tray pair lent n (take_answer tray n) d e refl refl refl refl).0 ∙ ap refused_by (sym (take_5 tray n h).0))
         (λ e. sym (take_other_record tray pair lent n d e).0))
         (λ d. sym (take_other_pair tray pair lent n d).0);
     take_pair = λ h n. sym (take_other_pair tray pair lent n h).0;
@@ -146,7 +144,7 @@ module _ (tray lent pair : List ℕ) (row : List ℤ) where
 
   -- ---- how many are held
 
-  answered : summary_number tray row ≡ 0 → (state_number (state_of tray) ≡ 0) × (summary_after tray row ≡ row_with row (state_of tray))
+  answered : summary_number tray row ≡ 0 → (refused_by (state_of tray) ≡ 0) × (summary_after tray row ≡ row_with row (state_of tray))
   answered z =
       by_equal (length row) row_size
       (λ e. let done = summary_done tray row (state_of tray) e refl refl in (done.0 ∙ z, sym done.1))

@@ -12,7 +12,7 @@ use Rattle.tray_places.specs.Places.{held_in}
 use Rattle.tray_places.specs.Counts.{one, times}
 use Rattle.tray.specs.Tray.{held_as, put_answer, take_answer}
 use Rattle.tray.specs.State.{state_of, answers_in}
-use Rattle.tray.specs.Calls.{Put, Take, taken_number, state_number, after}
+use Rattle.tray.specs.Calls.{Put, Take, refused_by, after}
 use Rattle.tray_calls.specs.TrayCalls.{record_with, put_number, tray_put, record_put, pair_with, record_from, take_number, tray_taken, pair_taken, record_taken, row_with, summary_number, summary_after}
 
 -- a put that is answered: 0, the record is that of a right answer to the pair, and just this sample is held more
@@ -58,6 +58,6 @@ pub record AnsweredCalls (tray lent pair : List ℕ) (row : List ℤ)
   -- (one_byte_tray, SameAnswers.antt) get the same numbers and bytes in C
   pub told_put : (number u y : ℕ)
       → (put_number tray lent number u y ≡ number_of (put_answer tray number u y)) × (record_put tray lent number u y ≡ record_with lent (put_answer tray number u y))
-  pub told_taken : (number : ℕ) → (take_number tray pair lent number ≡ taken_number (take_answer tray number))
+  pub told_taken : (number : ℕ) → (take_number tray pair lent number ≡ refused_by (take_answer tray number))
       × (pair_taken tray pair lent number ≡ pair_with pair (take_answer tray number)) × (record_taken tray pair lent number ≡ record_from lent (take_answer tray number))
-  pub told_asked : (summary_number tray row ≡ state_number (state_of tray)) × (summary_after tray row ≡ row_with row (state_of tray))
+  pub told_asked : (summary_number tray row ≡ refused_by (state_of tray)) × (summary_after tray row ≡ row_with row (state_of tray))

@@ -1,20 +1,18 @@
 -- Change request #102 in C, by document 01's rule for the pair call: each lent memory is first asked whether it has just its size (no: 5, all untouched); then the
 -- tray's own questions, of which the first no gives its number, with all lent memory untouched; otherwise what was asked for is filled in, and 0 is answered.
-use Rattle.std.specs.Prelude.{ℕ, ◌+◌, Bool, cond, ◌&&◌, List, [], ◌∷◌, eqb, ℤ, pos, length}
+use Rattle.std.specs.Prelude.{ℕ, ◌+◌, Bool, cond, ◌&&◌, List, [], ◌∷◌, eqb, ℤ, pos, length, get_or, Option, Some, None, Result, Ok, Err}
 use Rattle.laws.specs.Questions.{ask}
 use Rattle.index.specs.declared.answer.Answer.{Answer}
 use Rattle.index.specs.Answer.{number_of}
 use Rattle.answer_record.specs.Bytes.{number_at}
-use Rattle.answer_record.specs.Record.{result_size, index_offset, lower_offset, upper_offset, record_of}
+use Rattle.answer_record.specs.Record.{result_size, method_offset, index_offset, lower_offset, upper_offset, record_of}
 use Rattle.index_summary.specs.declared.Summary.{Summary}
 use Rattle.tray_places.specs.declared.samples.Place.{Place}
-use Rattle.tray.specs.declared.Taken.{Taken}
-use Rattle.tray.specs.declared.Taken.TheVariants as taken
-use Rattle.tray.specs.declared.state.State.{State}
-use Rattle.tray.specs.declared.state.State.TheVariants as state
+use Rattle.tray_places.specs.declared.samples.Sample.{Sample}
+use Rattle.tray.specs.declared.refusal.Refusal.{Refusal}
 use Rattle.tray.specs.Tray.{put_answer, tray_after_put, take_answer, tray_after_take}
 use Rattle.tray.specs.State.{state_of}
-use Rattle.tray.specs.Calls.{taken_number, state_number}
+use Rattle.tray.specs.Calls.{refused_by}
 
 -- the number of the questions about sizes
 abbrev pub not_its_size : ℕ
@@ -40,9 +38,9 @@ unfoldable pub record_put : List ℕ → List ℕ → ℕ → ℕ → ℕ → Li
 record_put tray lent number u y = cond (just16 lent) (record_with lent (put_answer tray number u y)) lent
 
 -- what the code stores: the place of a sample whose answer stands in a record, field by field
-unfoldable pub place_from : List ℕ → ℕ → ℕ → ℕ → ℕ → Place
-place_from filled method number u y = record {
-  method = method;
+unfoldable pub place_from : List ℕ → ℕ → ℕ → ℕ → Place
+place_from filled number u y = record {
+  method = get_or filled method_offset 0;
   number = number;
   u = u;
   y = y;
@@ -64,17 +62,17 @@ abbrev pub just_these : List ℕ → List ℕ → Bool
 just_these pair lent = eqb (length pair) pair_size && just16 lent
 
 -- the pair and the record after an answer: untouched where the take is refused
-abbrev pub pair_with : List ℕ → Taken → List ℕ
-pair_with pair (taken.Refused number) = pair
-pair_with pair (taken.Out s) = pair_of s.u s.y
+abbrev pub pair_with : List ℕ → Result Sample Refusal → List ℕ
+pair_with pair (Err refusal) = pair
+pair_with pair (Ok s) = pair_of s.u s.y
 
-abbrev pub record_from : List ℕ → Taken → List ℕ
-record_from lent (taken.Refused number) = lent
-record_from lent (taken.Out s) = record_of s.answer
+abbrev pub record_from : List ℕ → Result Sample Refusal → List ℕ
+record_from lent (Err refusal) = lent
+record_from lent (Ok s) = record_of s.answer
 
 -- the number that is answered, the tray, the pair and the record afterwards
 unfoldable pub take_number : List ℕ → List ℕ → List ℕ → ℕ → ℕ
-take_number tray pair lent number = ask (just_these pair lent) not_its_size (taken_number (take_answer tray number))
+take_number tray pair lent number = ask (just_these pair lent) not_its_size (refused_by (take_answer tray number))
 
 unfoldable pub tray_taken : List ℕ → List ℕ → List ℕ → ℕ → List ℕ
 tray_taken tray pair lent number = cond (just_these pair lent) (tray_after_take tray number) tray
@@ -108,14 +106,18 @@ summary_row t = row_of (pos (held_of t)) t.lowest t.highest t.sum (pos t.a) (pos
 abbrev pub empty_row : List ℤ
 empty_row = row_of (pos 0) (pos 0) (pos 0) (pos 0) (pos 0) (pos 0) (pos 0)
 
-abbrev pub row_with : List ℤ → State → List ℤ
-row_with row (state.Refused number) = row
-row_with row state.Empty = empty_row
-row_with row (state.Holding t) = summary_row t
+abbrev pub state_row : Option Summary → List ℤ
+state_row None = empty_row
+state_row (Some t) = summary_row t
+
+-- the row after an answer: untouched where the tray is refused
+abbrev pub row_with : List ℤ → Result (Option Summary) Refusal → List ℤ
+row_with row (Err refusal) = row
+row_with row (Ok state) = state_row state
 
 -- the number that is answered, and the row afterwards
 unfoldable pub summary_number : List ℕ → List ℤ → ℕ
-summary_number tray row = ask (just7 row) not_its_size (state_number (state_of tray))
+summary_number tray row = ask (just7 row) not_its_size (refused_by (state_of tray))
 
 unfoldable pub summary_after : List ℕ → List ℤ → List ℤ
 summary_after tray row = cond (just7 row) (row_with row (state_of tray)) row

@@ -1,62 +1,50 @@
 // The calls with a tray as C has them: numbers and lent memories. Each lent memory is first asked for its size; a refused call leaves all of them as they are.
-// A crate of its own below the C calls, so that its must-fail edits do not prove the pair and the sheet again.
+// A crate of its own below the C calls, so that its must-fail edits do not prove the pair and the sheet again. C reads what is answered: refusals are numbers here.
 #![tactic(auto)]
 
-ghost use Rattle.std.specs.Prelude.{◌≡◌, length};
+ghost use Rattle.std.specs.Prelude.{◌≡◌};
 ghost use Rattle.index.specs.ChosenAnswer.{answer_of};
 ghost use Rattle.answer_record.specs.Record.{record_of};
-ghost use Rattle.tray_calls.specs.TrayCalls.{place_from, pair_size, pair_of, row_size, row_of, summary_row, put_number, tray_put, record_put, take_number, tray_taken, pair_taken, record_taken, summary_number, summary_after};
+ghost use Rattle.tray.specs.Tray.{number_of_refusal};
+ghost use Rattle.tray_calls.specs.TrayCalls.{place_from, state_row, put_number, tray_put, record_put, take_number, tray_taken, pair_taken, record_taken, summary_number, summary_after};
 
 use answer_record::layout::{INDEX_AT, LOWER_AT, METHOD_AT, RESULT_SIZE, UPPER_AT};
-use answer_record::{number_at, store_fields, write_result};
+use answer_record::{number_at, write_result};
 use index::answer::ANSWERED;
-use tray::{Place, State, Summary, TRAY_SIZE, Taken};
+use tray::{Place, Refusal, Summary, TRAY_SIZE};
 
 // What is answered where a lent memory has not its size, and where no question refuses.
 const NOT_ITS_SIZE: u32 = 5;
 
 const DONE: u32 = 0;
 
-// A pair: how many numbers it is, and where u and y stand.
+// How many numbers a pair is: u, then y.
 const PAIR_SIZE: usize = 2;
 
-const U_AT: usize = 0;
-
-const Y_AT: usize = 1;
-
-// A summary: how many numbers it is, and where each stands.
+// How many numbers a summary is: how many samples are held, the lowest and the highest index, the sum of indices, and how many are by A, by B settled and by
+// B near.
 const SUMMARY_SIZE: usize = 7;
 
-const HELD_AT: usize = 0;
-
-const LOWEST_AT: usize = 1;
-
-const HIGHEST_AT: usize = 2;
-
-const SUM_AT: usize = 3;
-
-const A_AT: usize = 4;
-
-const SETTLED_AT: usize = 5;
-
-const NEAR_AT: usize = 6;
-
-// The place of a sample whose answer stands in a record, with that method.
-fn place_from(filled: &[u8; RESULT_SIZE], method: u8, number: u32, u: u32, y: u32) -> Place
-    ensures { result ≡ place_from filled.now method number u y }
+// The place of a sample whose answer stands in a record.
+fn place_from(filled: &[u8; RESULT_SIZE], number: u32, u: u32, y: u32) -> Place
+    ensures { result ≡ place_from filled.now number u y }
 {
-    let index = number_at(filled, INDEX_AT);
-    let lower = number_at(filled, LOWER_AT);
-    let upper = number_at(filled, UPPER_AT);
     Place {
-        method: method as u32,
+        method: u32::from(filled[METHOD_AT]),
         number,
         u,
         y,
-        index,
-        lower,
-        upper,
+        index: number_at(filled, INDEX_AT),
+        lower: number_at(filled, LOWER_AT),
+        upper: number_at(filled, UPPER_AT),
     }
+}
+
+// The number of a refusal as C reads it.
+fn number_of(refusal: Refusal) -> u32
+    ensures { result ≡ number_of_refusal refusal }
+{
+    u32::from(u8::from(refusal))
 }
 
 // Puts a sample in whose pair's answer stands in a record, and gives that record. An inner function, for callers that have asked the pair.
@@ -76,35 +64,21 @@ pub fn put_answered(
     if record.len() != RESULT_SIZE {
         return NOT_ITS_SIZE;
     }
-    if tray.len() != TRAY_SIZE {
+    let Some(tray) = tray.as_mut_array::<TRAY_SIZE>() else {
         return NOT_ITS_SIZE;
-    }
+    };
     let pair = filled[0];
-    let method = filled[METHOD_AT];
-    let place = place_from(filled, method, number, u, y);
-    let refused = tray::hold(tray, number, pair, place);
-    if refused != ANSWERED {
-        return refused as u32;
+    if pair != ANSWERED {
+        return u32::from(pair);
     }
-    store_fields(
-        record,
-        0,
-        ANSWERED,
-        method,
-        place.index,
-        place.lower,
-        place.upper,
-    );
-    DONE
-}
-
-// Stores a pair, u then y.
-fn store_pair(pair: &mut [u32], u: u32, y: u32)
-    requires { length pair.old ≡ pair_size }
-    ensures { pair.new ≡ pair_of u y }
-{
-    pair[U_AT] = u;
-    pair[Y_AT] = y;
+    let place = place_from(filled, number, u, y);
+    match tray::hold(tray, number, place) {
+        Err(refusal) => number_of(refusal),
+        Ok(()) => {
+            record.copy_from_slice(filled);
+            DONE
+        }
+    }
 }
 
 // Takes a sample out: its pair, and its answer as one record.
@@ -121,49 +95,25 @@ pub fn take_sample(tray: &mut [u32], number: u32, pair: &mut [u32], record: &mut
     if record.len() != RESULT_SIZE {
         return NOT_ITS_SIZE;
     }
-    let taken = tray::take(tray, number);
-    match taken {
-        Taken::Refused(refused) => refused as u32,
-        Taken::Out(sample) => {
-            let answer = sample.answer;
-            store_pair(pair, sample.u, sample.y);
-            write_result(record, 0, answer);
+    match tray::take(tray, number) {
+        Err(refusal) => number_of(refusal),
+        Ok(sample) => {
+            pair.copy_from_slice(&[sample.u, sample.y]);
+            write_result(record, 0, sample.answer);
             DONE
         }
     }
 }
 
-// Stores the numbers of a summary.
-fn store_row(
-    row: &mut [i64],
-    held: i64,
-    lowest: i64,
-    highest: i64,
-    sum: i64,
-    a: i64,
-    settled: i64,
-    near: i64,
-)
-    requires { length row.old ≡ row_size }
-    ensures { row.new ≡ row_of held lowest highest sum a settled near }
+// The numbers of a state; all zeros where no sample is held.
+fn state_row(state: Option<Summary>) -> [i64; SUMMARY_SIZE]
+    ensures { result ≡ state_row state }
 {
-    row[HELD_AT] = held;
-    row[LOWEST_AT] = lowest;
-    row[HIGHEST_AT] = highest;
-    row[SUM_AT] = sum;
-    row[A_AT] = a;
-    row[SETTLED_AT] = settled;
-    row[NEAR_AT] = near;
-}
-
-// Stores a summary, with how many samples it is of.
-fn store_summary(row: &mut [i64], t: Summary)
-    requires { length row.old ≡ row_size }
-    ensures { row.new ≡ summary_row t }
-{
+    let Some(t) = state else {
+        return [0; SUMMARY_SIZE];
+    };
     let held = (t.a as u64 + t.settled as u64 + t.near as u64) as i64;
-    store_row(
-        row,
+    [
         held,
         t.lowest,
         t.highest,
@@ -171,10 +121,10 @@ fn store_summary(row: &mut [i64], t: Summary)
         t.a as i64,
         t.settled as i64,
         t.near as i64,
-    );
+    ]
 }
 
-// The summary of a tray as a row; all zeros where no sample is held.
+// The summary of a tray as a row.
 pub fn fill_summary(tray: &[u32], row: &mut [i64]) -> u32
     ensures number { result ≡ summary_number tray.now row.old }
     ensures numbers { row.new ≡ summary_after tray.now row.old }
@@ -182,15 +132,10 @@ pub fn fill_summary(tray: &[u32], row: &mut [i64]) -> u32
     if row.len() != SUMMARY_SIZE {
         return NOT_ITS_SIZE;
     }
-    let state = tray::summary(tray);
-    match state {
-        State::Refused(refused) => refused as u32,
-        State::Empty => {
-            store_row(row, 0, 0, 0, 0, 0, 0, 0);
-            DONE
-        }
-        State::Holding(t) => {
-            store_summary(row, t);
+    match tray::summary(tray) {
+        Err(refusal) => number_of(refusal),
+        Ok(state) => {
+            row.copy_from_slice(&state_row(state));
             DONE
         }
     }

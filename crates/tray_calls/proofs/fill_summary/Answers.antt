@@ -8,17 +8,13 @@ returns-then-row-ne-SUMMARY_SIZE c =
     let left = summary_other _ _ c.if-row-ne-SUMMARY_SIZE.true in
     record { number = left.0; numbers = left.1 }
 
-pub returns-in-Refused : goal.returns-in-Refused
-returns-in-Refused c =
-    let left = summary_done _ _ _ c.if-row-ne-SUMMARY_SIZE.false (sym c.in-Refused.is ∙ c.summary-state.ensures.value) refl in
-    record { number = left.0; numbers = left.1 }
+pub returns-in-Err : goal.returns-in-Err
+returns-in-Err c =
+    let left = summary_done _ _ _ c.if-row-ne-SUMMARY_SIZE.false (sym c.in-Err.is ∙ c.summary.ensures.value) refl in
+    record { number = c.number_of.ensures ∙ left.0; numbers = left.1 }
 
-pub returns-in-Empty : goal.returns-in-Empty
-returns-in-Empty c =
-    let left = summary_done _ _ _ c.if-row-ne-SUMMARY_SIZE.false (sym c.in-Empty.is ∙ c.summary-state.ensures.value) c.store_row.ensures in
-    record { number = left.0; numbers = left.1 }
-
-pub returns-in-Holding : goal.returns-in-Holding
-returns-in-Holding c =
-    let left = summary_done _ _ _ c.if-row-ne-SUMMARY_SIZE.false (sym c.in-Holding.is ∙ c.summary-state.ensures.value) c.store_summary.ensures in
+pub returns-in-Ok : goal.returns-in-Ok
+returns-in-Ok c =
+    let left = summary_done _ _ _ c.if-row-ne-SUMMARY_SIZE.false (sym c.in-Ok.is ∙ c.summary.ensures.value)
+    (c.copy_from_slice.ensures.after ∙ c.state_row.ensures) in
     record { number = left.0; numbers = left.1 }

@@ -4,4 +4,4 @@ use Rattle.tray_calls.proofs.place_from.Goals as goal
 
 pub returns : goal.returns
 unfolding place_from
-returns c = rw (c.number_at-upper.ensures, c.number_at-lower.ensures, c.number_at-index.ensures)
+returns c = rw (c.from.ensures, c.number_at-3.ensures, c.number_at-2.ensures, c.number_at.ensures)
