@@ -8,7 +8,7 @@ use borrow.Author.Tests.{eq-eqb, ne_eqb}
 use lib.ListN.{length}
 use Rattle.std.specs.Prelude.{None, Ok}
 use Rattle.laws.proofs.Order.{by_test}
-use Rattle.index.specs.declared.answer.Answer.TheVariants as answer
+use Rattle.index.specs.declared.answer.Index.TheVariants as answer
 use Rattle.index.specs.Questions.{refusal}
 use Rattle.index.specs.ChosenAnswer.{answer_of}
 use Rattle.tray_places.specs.declared.samples.Sample.{Sample}

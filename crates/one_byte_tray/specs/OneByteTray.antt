@@ -7,10 +7,9 @@ use Rattle.std.specs.Prelude.{ℕ, zero, suc, ◌+◌, ◌*◌, ◌%◌, Bool, c
 use Rattle.laws.specs.Questions.{ask}
 use Rattle.shown_index.specs.declared.Mark.{Mark}
 use Rattle.shown_index.specs.declared.Mark.TheVariants.{Settled, Near}
-use Rattle.index.specs.declared.answer.Answer.{Answer}
-use Rattle.index.specs.declared.answer.Answer.TheVariants as answer
+use Rattle.index.specs.declared.answer.Index.TheVariants as answer
 use Rattle.index.specs.Questions.{refusal}
-use Rattle.index.specs.Answer.{method_of, index_of, lower_of, upper_of}
+use Rattle.index.specs.Answer.{Answer, method_of, index_of, lower_of, upper_of}
 use Rattle.index.specs.ChosenAnswer.{answer_of}
 use Rattle.answer_record.specs.Bytes.{twos_complement, signed_of, stored}
 use Rattle.index_summary.specs.declared.Summary.{Summary}

@@ -1,7 +1,7 @@
 -- Change request #104: "The tray takes numbers up to 4,294,967,295. Its size remains 64, and every list of calls that used numbers up to 255 gets the answers it
 -- got." The tray beside the one of #102 (OneByteTray.antt), with no program in it.
 use Rattle.std.specs.Prelude.{ℕ, ◌≡◌, Bool, true, ◌&&◌, List, [], ◌∷◌, leb, None, Ok}
-use Rattle.index.specs.declared.answer.Answer.TheVariants as answer
+use Rattle.index.specs.declared.answer.Index.TheVariants as answer
 use Rattle.index.specs.Questions.{refusal}
 use Rattle.index.specs.ChosenAnswer.{answer_of}
 use Rattle.tray_places.specs.Places.{empty_tray}

@@ -11,9 +11,8 @@ use lib.Signed.{mag}
 use Rattle.laws.specs.Bits.{span32}
 use Rattle.laws.proofs.Contradiction.{impossible, both_ways}
 use Rattle.laws.proofs.Order.{by_test, by_order}
-use Rattle.index.specs.declared.answer.Answer.{Answer}
 use Rattle.index.specs.Questions.{refusal}
-use Rattle.index.specs.Answer.{number_of, index_of}
+use Rattle.index.specs.Answer.{Answer, number_of, index_of}
 use Rattle.index.specs.ChosenAnswer.{answer_of}
 use Rattle.index.proofs.Fits.{fits}
 use Rattle.index_summary.specs.declared.Summary.{Summary}

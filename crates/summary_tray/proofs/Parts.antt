@@ -14,10 +14,9 @@ use Rattle.laws.specs.Bits.{span32}
 use Rattle.laws.proofs.Computed.{both_pass}
 use Rattle.laws.proofs.Contradiction.{impossible}
 use Rattle.laws.proofs.Order.{by_test, by_order}
-use Rattle.index.specs.declared.answer.Answer.{Answer}
-use Rattle.index.specs.declared.answer.Answer.TheVariants as answer
+use Rattle.index.specs.declared.answer.Index.TheVariants as answer
 use Rattle.index.specs.Questions.{refusal}
-use Rattle.index.specs.Answer.{number_of, index_of, RightAnswer}
+use Rattle.index.specs.Answer.{Answer, number_of, index_of, RightAnswer}
 use Rattle.index.specs.ChosenAnswer.{answer_of}
 use Rattle.index.proofs.Fits.{fits}
 use Rattle.index_summary.specs.declared.Summary.{Summary}

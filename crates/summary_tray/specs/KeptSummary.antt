@@ -2,7 +2,7 @@
 -- give, also when the lowest leaves while another sample has the same index; with none held the tray still says so." What holds after every list of calls, and of
 -- each call on any memory, whoever wrote it. The walk that the kept summary is compared with is #102's (tray, State.antt: `state_of`).
 use Rattle.std.specs.Prelude.{ℕ, ◌<◌, ◌≡◌, false, List, [], length, get_or, drop}
-use Rattle.index.specs.declared.answer.Answer.TheVariants as answer
+use Rattle.index.specs.declared.answer.Index.TheVariants as answer
 use Rattle.index.specs.Answer.{number_of, index_of}
 use Rattle.index_summary.specs.declared.Summary.{Summary}
 use Rattle.index_summary.specs.Summary.{Some, is_between}

@@ -2,9 +2,8 @@
 -- samples (crate tray), and behind them the nine numbers of the summary that it keeps (crate summary_block). The request leaves open how it is kept: that is the
 -- program's choice, and KeptSummary.antt says what holds of it.
 use Rattle.std.specs.Prelude.{ℕ, Bool, cond, ◌&&◌, List, ◌++◌, eqb, length, take, drop, replicate}
-use Rattle.index.specs.declared.answer.Answer.{Answer}
-use Rattle.index.specs.declared.answer.Answer.TheVariants as answer
-use Rattle.index.specs.Answer.{number_of}
+use Rattle.index.specs.declared.answer.Index.TheVariants as answer
+use Rattle.index.specs.Answer.{Answer, number_of}
 use Rattle.index_summary.specs.declared.Summary.{Summary}
 use Rattle.index_summary.specs.Summary.{joined_of, is_between, without_of}
 use Rattle.index_summary.specs.Preconditions.{is_within}

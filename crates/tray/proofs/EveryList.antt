@@ -6,15 +6,15 @@ use mathlib.Core.List.{List, [], ◌∷◌}
 use native.Mathlib.Omega.{arith}
 use borrow.Author.Tests.{eq-eqb}
 use lib.ListN.{length}
-use Rattle.std.specs.Prelude.{Ok}
+use Rattle.std.specs.Prelude.{Result, Ok, Err}
+use Rattle.laws.proofs.Contradiction.{impossible, not_some}
 use Rattle.laws.proofs.Computed.{both_pass}
 use Rattle.laws.proofs.Order.{by_test, by_order}
-use Rattle.index.specs.declared.answer.Answer.{Answer}
-use Rattle.index.specs.declared.answer.Answer.TheVariants as answer
+use Rattle.reference.specs.Refusal as pair
+use Rattle.index.specs.declared.answer.Index.{Index}
 use Rattle.index.specs.Questions.{refusal}
-use Rattle.index.specs.Answer.{number_of, RightAnswer}
+use Rattle.index.specs.Answer.{Answer, RightAnswer}
 use Rattle.index.specs.ChosenAnswer.{answer_of}
-use Rattle.index.proofs.QuestionOrder.{number_most}
 use Rattle.index.proofs.Right.{right}
 use Rattle.tray_places.specs.declared.samples.Sample.{Sample}
 use Rattle.tray_places.specs.Places.{places, tray_size, empty_tray, sample_at, place_of_number, held_in}
@@ -22,10 +22,12 @@ use Rattle.tray_places.specs.Counts.{one, times, numbered, same}
 use Rattle.tray_places.proofs.Held.{times_none, times_one, times_append}
 use Rattle.tray_places.proofs.Found.{held_most, empty_size, empty_holds}
 use Rattle.tray_places.proofs.Same.{itself, only, times_fewer, same_number}
-use Rattle.tray.specs.Tray.{held_refusal, held_as, sample_with, put_answer, take_answer}
+use Rattle.tray.specs.declared.refusal.Refusal.{Refusal}
+use Rattle.tray.specs.declared.refusal.Refusal.TheVariants.{Pair, NumberHeld, TrayFull}
+use Rattle.tray.specs.Tray.{number_of_refusal, held_as, sample_with, as_put, put_answer, take_answer}
 use Rattle.tray.specs.Calls.{Call, Put, Take, Ask, refused_by, call_refusal, after, after_all, in_by, samples_taken_in, samples_taken_out, all_taken_in, all_taken_out}
 use Rattle.tray.specs.EveryListOfCalls.{EveryList, QuestionNumbers, OtherMemory, EveryCall}
-use Rattle.tray.proofs.Questions.{put_5, take_5}
+use Rattle.tray.proofs.Questions.{refusal_some, put_5, take_5}
 use Rattle.tray.proofs.Steps.{pair_first, refused_31, refused_32, put_answered, one_in, refused_33, take_answered, number_out, one_out, call_step}
 
 -- ---- a list of calls
@@ -65,17 +67,24 @@ abbrev Alone : Sample → Type 0
 Alone s = (refusal s.u s.y ≡ 0) × (s.answer ≡ answer_of s.u s.y) × RightAnswer s.u s.y s.answer
 
 -- what a put answers, other than a refusal, is the pair's own answer
-pub put_alone : (l : List ℕ) (n u y : ℕ) → length l ≡ tray_size → (number_of (put_answer l n u y) ≡ 0) → (refusal u y ≡ 0) × (put_answer l n u y ≡ answer_of u y)
-put_alone l n u y h z =
-    by_order 0 (refusal u y) (λ p. let by = ap number_of (pair_first l h n u y p).0 in absurd (omega arith))
+pub put_alone : (l : List ℕ) (n u y : ℕ) {i : Index} → length l ≡ tray_size → put_answer l n u y ≡ Ok i → (refusal u y ≡ 0) × (Ok i ≡ answer_of u y)
+put_alone l n u y {i} h z =
+    by_order 0 (refusal u y) (λ p. let by = ap refused_by (sym (pair_first l h n u y p).0 ∙ z) in not_refused (Pair (pair.refusal_of (refusal u y))) by)
     (λ q.
     let passed : refusal u y ≡ 0 = omega arith in
-    by_order 0 (held_as l n) (λ p. let by = ap number_of (refused_31 l h n u y passed p).0 in absurd (omega arith))
+    by_order 0 (held_as l n) (λ p. let by = ap refused_by (sym (refused_31 l h n u y passed p).0 ∙ z) in absurd (omega arith))
     (λ r. by_order (length (held_in l)) places
-    (λ few. (passed, (put_answered l h n u y passed (omega arith) few).0))
+    (λ few. (passed, own (answer_of u y) (sym (put_answered l h n u y passed (omega arith) few).0 ∙ z)))
     (λ many.
-    let by = ap number_of (refused_32 l h n u y passed (omega arith) (omega (arith, held_most l))).0 in
+    let by = ap refused_by (sym (refused_32 l h n u y passed (omega arith) (omega (arith, held_most l))).0 ∙ z) in
     absurd (omega arith))))
+  where
+    not_refused : {P : Type 0} (r : Refusal) → number_of_refusal r ≡ 0 → P
+    not_refused r e = let some = refusal_some r in absurd (omega arith)
+
+    own : (a : Answer) → as_put a ≡ Ok i → Ok i ≡ a
+    own (Err q) e = impossible cc
+    own (Ok j) e = let same : j ≡ i = cc in ap Ok (sym same)
 
 in_one : (s t : Sample) → Alone t → 0 < times (same s) (t ∷ []) → Alone s
 in_one s t a p =
@@ -85,13 +94,13 @@ in_one s t a p =
 with_right : (u y : ℕ) {a : Answer} → (refusal u y ≡ 0) × (a ≡ answer_of u y) → (refusal u y ≡ 0) × (a ≡ answer_of u y) × RightAnswer u y a
 with_right u y {a} both = (both.0, both.1, subst (RightAnswer u y) (sym both.1) (right u y))
 
-in_alone : (s : Sample) (n u y : ℕ) (a : Answer) → (number_of a ≡ 0 → (refusal u y ≡ 0) × (a ≡ answer_of u y)) → 0 < times (same s) (in_by n u y a) → Alone s
-in_alone s n u y (answer.Refused k) f p = absurd (omega (arith, times_none (same s)))
-in_alone s n u y (answer.A k) f p = in_one s (sample_with n u y (answer.A k)) (with_right u y (f refl)) p
-in_alone s n u y (answer.B b) f p = in_one s (sample_with n u y (answer.B b)) (with_right u y (f refl)) p
+in_alone : (s : Sample) (n u y : ℕ) (a : Result Index Refusal) → ((i : Index) → a ≡ Ok i → (refusal u y ≡ 0) × (Ok i ≡ answer_of u y))
+    → 0 < times (same s) (in_by n u y a) → Alone s
+in_alone s n u y (Err k) f p = absurd (omega (arith, times_none (same s)))
+in_alone s n u y (Ok i) f p = in_one s (sample_with n u y (Ok i)) (with_right u y (f i refl)) p
 
 call_alone : (l : List ℕ) (c : Call) (s : Sample) → length l ≡ tray_size → 0 < times (same s) (samples_taken_in l c) → Alone s
-call_alone l (Put n u y) s h p = in_alone s n u y (put_answer l n u y) (put_alone l n u y h) p
+call_alone l (Put n u y) s h p = in_alone s n u y (put_answer l n u y) (λ i. put_alone l n u y h) p
 call_alone l (Take n) s h p = absurd (omega (arith, times_none (same s)))
 call_alone l Ask s h p = absurd (omega (arith, times_none (same s)))
 
@@ -105,22 +114,21 @@ list_alone l (c ∷ cs) s h p =
 
 -- ---- 32
 
-number_is : (j k : ℕ) → answer.Refused j ≡ answer.Refused k → j ≡ k
-number_is j k e = cc
-
-full_only : (l : List ℕ) (n u y : ℕ) → length l ≡ tray_size → put_answer l n u y ≡ answer.Refused 32 → length (held_in l) ≡ 64
+full_only : (l : List ℕ) (n u y : ℕ) → length l ≡ tray_size → put_answer l n u y ≡ Err TrayFull → length (held_in l) ≡ 64
 full_only l n u y h e =
     by_order 0 (refusal u y)
-    (λ p. absurd (omega (arith, number_is (refusal u y) 32 (sym (pair_first l h n u y p).0 ∙ e), number_most u y)))
+    (λ p. let is : Err (Pair (pair.refusal_of (refusal u y))) ≡ Err TrayFull = sym (pair_first l h n u y p).0 ∙ e in impossible cc)
     (λ q.
     let passed : refusal u y ≡ 0 = omega arith in
     by_order 0 (held_as l n)
-    (λ p. absurd (omega (arith, number_is held_refusal 32 (sym (refused_31 l h n u y passed p).0 ∙ e))))
+    (λ p. let is : Err NumberHeld ≡ Err TrayFull = sym (refused_31 l h n u y passed p).0 ∙ e in impossible cc)
     (λ r. by_order (length (held_in l)) places
-    (λ some.
-    let is = ap number_of (sym (put_answered l h n u y passed (omega arith) some).0 ∙ e) in
-    absurd (omega (arith, (right u y).number)))
+    (λ some. not_full (answer_of u y) (right u y) passed (sym (put_answered l h n u y passed (omega arith) some).0 ∙ e))
     (λ many. omega (arith, held_most l))))
+  where
+    not_full : {P : Type 0} (a : Answer) → RightAnswer u y a → refusal u y ≡ 0 → as_put a ≡ Err TrayFull → P
+    not_full (Err q) r z d = impossible cc
+    not_full (Ok i) r z d = impossible cc
 
 -- ---- the statements
 
@@ -156,10 +164,12 @@ refused_unchanged l h (Put n u y) p =
     let passed : refusal u y ≡ 0 = omega arith in
     by_order 0 (held_as l n) (λ q. (refused_31 l h n u y passed q).1)
     (λ r. by_order (length (held_in l)) places
-    (λ some.
-    let is = ap number_of (put_answered l h n u y passed (omega arith) some).0 in
-    absurd (omega (arith, (right u y).number)))
+    (λ some. none_refused (answer_of u y) (right u y) passed (ap refused_by (put_answered l h n u y passed (omega arith) some).0))
     (λ many. (refused_32 l h n u y passed (omega arith) (omega (arith, held_most l))).1)))
+  where
+    none_refused : {P : Type 0} (a : Answer) → RightAnswer u y a → refusal u y ≡ 0 → refused_by (put_answer l n u y) ≡ refused_by (as_put a) → P
+    none_refused (Err q) r z e = not_some (pair.number_of_refusal q) (r.number ∙ z) r.case
+    none_refused (Ok i) r z e = absurd (omega (arith, p, e))
 refused_unchanged l h (Take n) p =
     by_order 0 (held_as l n)
     (λ q. let is = ap refused_by (take_answered l h n q).0 in absurd (omega arith))

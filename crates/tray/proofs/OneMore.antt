@@ -13,8 +13,7 @@ use lib.Signed.{mag}
 use Rattle.std.specs.Prelude.{Option, Some, None}
 use Rattle.laws.specs.Bits.{span32}
 use Rattle.laws.proofs.Order.{by_test, by_order}
-use Rattle.index.specs.declared.answer.Answer.{Answer}
-use Rattle.index.specs.Answer.{index_of}
+use Rattle.index.specs.Answer.{Answer, index_of}
 use Rattle.index.specs.Questions.{refusal}
 use Rattle.index.specs.ChosenAnswer.{answer_of}
 use Rattle.index.proofs.Fits.{fits}

@@ -11,11 +11,15 @@ use lib.ListN.{length}
 use Rattle.std.specs.Prelude.{Result, Ok, Err}
 use Rattle.laws.specs.Questions.{ask}
 use Rattle.laws.proofs.Order.{by_test, by_order}
-use Rattle.index.specs.declared.answer.Answer.{Answer}
-use Rattle.index.specs.declared.answer.Answer.TheVariants as answer
+use Rattle.reference.specs.declared.refusal.Refusal.TheVariants.{ThinAt100, ThickAt100, ThickAt40, NotThicker}
+use Rattle.reference.specs.declared.refusal.Refusal as of_pair
+use Rattle.reference.specs.Refusal as pair
+use Rattle.reference.proofs.Refusals.{numbered_refusals}
+use Rattle.index.specs.declared.answer.Index.{Index}
 use Rattle.index.specs.Questions.{refusal}
-use Rattle.index.specs.Answer.{number_of, RightAnswer}
+use Rattle.index.specs.Answer.{Answer, number_of, RightAnswer}
 use Rattle.index.specs.ChosenAnswer.{answer_of}
+use Rattle.index.proofs.QuestionOrder.{number_most}
 use Rattle.answer_record.specs.Bytes.{stored}
 use Rattle.tray_places.specs.declared.samples.Sample.{Sample}
 use Rattle.tray_places.specs.declared.samples.Place.{Place}
@@ -23,8 +27,8 @@ use Rattle.tray_places.specs.Places.{places, place_size, tray_size, numbers_of, 
 use Rattle.tray_places.specs.Samples.{place_of}
 use Rattle.tray_places.proofs.Found.{some_free, none_free, number_held, number_not_held}
 use Rattle.tray.specs.declared.refusal.Refusal.{Refusal}
-use Rattle.tray.specs.declared.refusal.Refusal.TheVariants.{NotATray, NumberHeld, TrayFull, NumberNotHeld}
-use Rattle.tray.specs.Tray.{not_a_tray, held_refusal, full_refusal, not_held_refusal, number_of_refusal, refusal_of, answered, held_as, sample_with, tray_with, hold_refusal, tray_holding, hold_answer, put_refusal, put_answer, tray_after_put, take_refusal, take_answer, tray_after_take}
+use Rattle.tray.specs.declared.refusal.Refusal.TheVariants.{NotATray, Pair, NumberHeld, TrayFull, NumberNotHeld}
+use Rattle.tray.specs.Tray.{not_a_tray, held_refusal, full_refusal, not_held_refusal, number_of_refusal, refusal_of, answered, held_as, sample_with, tray_with, as_put, hold_refusal, tray_holding, hold_answer, put_refusal, put_answer, tray_after_put, take_refusal, take_answer, tray_after_take}
 
 some : (k : ℕ) → 0 < k → eqb k 0 ≡ false
 some k p = ne_eqb k 0 (λ (z : k ≡ 0). omega arith)
@@ -34,18 +38,37 @@ above_zero k h = by_order 0 k (λ p. p) (λ z. absurd (h (omega arith)))
 
 -- ---- a refusal and its number
 
-refusal_back : (n : ℕ) → number_of_refusal (refusal_of n) ≡ n
-refusal_back n =
-    by_test (eqb n not_a_tray) (λ e. rw e (sym (eqb-true n not_a_tray e)))
-    (λ a. by_test (eqb n held_refusal) (λ e. rw (a, e) (sym (eqb-true n held_refusal e)))
-    (λ b. by_test (eqb n full_refusal) (λ e. rw (a, b, e) (sym (eqb-true n full_refusal e)))
-    (λ c. by_test (eqb n not_held_refusal) (λ e. rw (a, b, c, e) (sym (eqb-true n not_held_refusal e))) (λ d. rw (a, b, c, d)))))
+-- a refusal has a number above 0
+pair_some : (q : of_pair.Refusal) → 0 < pair.number_of_refusal q
+pair_some ThinAt100 = omega arith
+pair_some ThickAt100 = omega arith
+pair_some ThickAt40 = omega arith
+pair_some NotThicker = omega arith
+
+pub refusal_some : (r : Refusal) → 0 < number_of_refusal r
+refusal_some NotATray = omega arith
+refusal_some (Pair q) = pair_some q
+refusal_some NumberHeld = omega arith
+refusal_some TrayFull = omega arith
+refusal_some NumberNotHeld = omega arith
+
+-- the number of one of the pair's own questions is its own
+own_question : (q : of_pair.Refusal) → refusal_of (pair.number_of_refusal q) ≡ Pair q
+own_question ThinAt100 = refl
+own_question ThickAt100 = refl
+own_question ThickAt40 = refl
+own_question NotThicker = refl
+
+pub own_number : (n : ℕ) → 0 < n → n ≤ 4 → refusal_of n ≡ Pair (pair.refusal_of n)
+own_number n low high =
+    let back : pair.number_of_refusal (pair.refusal_of n) ≡ n = numbered_refusals.of_number n low high in
+    ap refusal_of (sym back) ∙ own_question (pair.refusal_of n)
 
 -- what an answer says of the number
-pub answered_err : {X : Type 0} (n : ℕ) (x : X) {r : Refusal} → Err r ≡ answered n x → (number_of_refusal r ≡ n) × (0 < n)
+pub answered_err : {X : Type 0} (n : ℕ) (x : X) {r : Refusal} → Err r ≡ answered n x → (r ≡ refusal_of n) × (0 < n)
 answered_err {X} n x {r} e =
     by_order 0 n
-    (λ p. let is : ◌≡◌ {A = Result X Refusal} (Err r) (Err (refusal_of n)) = rw (some n p) at e in let same : r ≡ refusal_of n = cc in (ap number_of_refusal same ∙ refusal_back n, p))
+    (λ p. let is : ◌≡◌ {A = Result X Refusal} (Err r) (Err (refusal_of n)) = rw (some n p) at e in let same : r ≡ refusal_of n = cc in (same, p))
     (λ z. let is : ◌≡◌ {A = Result X Refusal} (Err r) (Ok x) = rw (eq-eqb n 0 (omega arith)) at e in absurd cc)
 
 pub answered_ok : {X : Type 0} (n : ℕ) (x : X) {y : X} → Ok y ≡ answered n x → n ≡ 0
@@ -80,11 +103,6 @@ module _ (l : List ℕ) (n : ℕ) where
 
   -- ---- holding a place, by places as the code asks
 
-  -- it is refused by some number
-  pub hold_some : {r : Refusal} → Err r ≡ hold_answer l n → 0 < number_of_refusal r
-  unfolding hold_answer
-  hold_some {r} e = let told = answered_err (hold_refusal l n 0) tt e in omega (arith, told.0, told.1)
-
   module _ (place : Place) where
     hold_by : (k : ℕ) → hold_refusal l n 0 ≡ k → 0 < k → (Err (refusal_of k) ≡ hold_answer l n) × (l ≡ tray_holding l n 0 place)
     unfolding hold_answer tray_holding
@@ -106,12 +124,6 @@ module _ (l : List ℕ) (n : ℕ) where
 
   -- ---- putting in
   module _ (u y : ℕ) where
-    -- a refused pair's answer is its number
-    refused_is : (a : Answer) → RightAnswer u y a → (number_of a ≡ 0 → ⊥) → a ≡ answer.Refused (refusal u y)
-    refused_is (answer.Refused k) r z = ap answer.Refused r.number
-    refused_is (answer.A k) r z = absurd (z refl)
-    refused_is (answer.B b) r z = absurd (z refl)
-
     put_size : (length l ≡ tray_size → ⊥) → put_refusal l n u y ≡ not_a_tray
     unfolding put_refusal
     put_size h = rw (ne_eqb (length l) tray_size h)
@@ -121,44 +133,51 @@ module _ (l : List ℕ) (n : ℕ) where
     put_sized h = rw (eq-eqb (length l) tray_size h)
 
     -- by the number that the questions give
-    pub put_by : (k : ℕ) → put_refusal l n u y ≡ k → 0 < k → (put_answer l n u y ≡ answer.Refused k) × (tray_after_put l n u y ≡ l)
+    pub put_by : (k : ℕ) → put_refusal l n u y ≡ k → 0 < k → (put_answer l n u y ≡ Err (refusal_of k)) × (tray_after_put l n u y ≡ l)
     unfolding put_answer tray_after_put
     put_by k e p = (rw (e, some k p), rw (e, some k p))
 
     pub put_passed : put_refusal l n u y ≡ 0
-        → (put_answer l n u y ≡ answer_of u y) × (tray_after_put l n u y ≡ tray_with l (sample_with n u y (answer_of u y)))
+        → (put_answer l n u y ≡ as_put (answer_of u y)) × (tray_after_put l n u y ≡ tray_with l (sample_with n u y (answer_of u y)))
     unfolding put_answer tray_after_put
     put_passed e = (rw e, rw e)
 
-    pub put_5 : (length l ≡ tray_size → ⊥) → (answer.Refused not_a_tray ≡ put_answer l n u y) × (l ≡ tray_after_put l n u y)
+    pub put_5 : (length l ≡ tray_size → ⊥) → (Err NotATray ≡ put_answer l n u y) × (l ≡ tray_after_put l n u y)
     put_5 h = let by = put_by not_a_tray (put_size h) (omega arith) in (sym by.0, sym by.1)
 
-    -- from the pair's answer, and what `hold` answers and leaves
-    module _ {a : Answer} (h : length l ≡ tray_size) (a_is : a ≡ answer_of u y) (is_right : RightAnswer u y a) where
-      pub put_pair : (number_of a ≡ 0 → ⊥) → (a ≡ put_answer l n u y) × (l ≡ tray_after_put l n u y)
-      put_pair z =
-          let k : ℕ = refusal u y in
-          let p : 0 < k = omega (arith, above_zero (number_of a) z, is_right.number) in
-          let by = put_by k (put_sized h ∙ no_pair k p) p in
-          (refused_is a is_right z ∙ sym by.0, sym by.1)
+    -- a pair that its own questions refuse
+    pub put_own : length l ≡ tray_size → 0 < refusal u y
+        → (put_answer l n u y ≡ Err (Pair (pair.refusal_of (refusal u y)))) × (tray_after_put l n u y ≡ l)
+    put_own h p =
+        let by = put_by (refusal u y) (put_sized h ∙ no_pair (refusal u y) p) p in
+        (by.0 ∙ ap Err (own_number (refusal u y) p (number_most u y)), by.1)
 
-      module _ {p : Place} {m : List ℕ} (passed : number_of a ≡ 0) (p-is : p ≡ place_of (sample_with n u y a)) (m-is : m ≡ tray_holding l n 0 p) where
-        asked : hold_refusal l n 0 ≡ put_refusal l n u y
-        asked = let none : refusal u y ≡ 0 = sym is_right.number ∙ passed in sym (put_sized h ∙ ap (hold_refusal l n) none)
+    pub put_pair : {q : of_pair.Refusal} → length l ≡ tray_size → Err q ≡ answer_of u y → RightAnswer u y (Err q)
+        → (Err (Pair q) ≡ put_answer l n u y) × (l ≡ tray_after_put l n u y)
+    put_pair {q} h e r =
+        let by = put_own h (omega (arith, r.number, r.case)) in
+        let same : pair.refusal_of (refusal u y) ≡ q = ap pair.refusal_of (sym r.number) ∙ numbered_refusals.of_refusal q in
+        (sym (by.0 ∙ ap (λ (x : of_pair.Refusal). Err (Pair x)) same), sym by.1)
 
-        pub put_refused : {r : Refusal} → Err r ≡ hold_answer l n → (answer.Refused (number_of_refusal r) ≡ put_answer l n u y) × (m ≡ tray_after_put l n u y)
-        unfolding hold_answer tray_holding
-        put_refused {r} e =
-            let told = answered_err (hold_refusal l n 0) tt e in
-            let by = put_by (hold_refusal l n 0) (sym asked) told.1 in
-            (ap answer.Refused told.0 ∙ sym by.0, rw (some (hold_refusal l n 0) told.1) at m-is ∙ sym by.1)
+    -- from the pair's index, and what `hold` answers and leaves
+    module _ {i : Index} {p : Place} {m : List ℕ} (h : length l ≡ tray_size) (i_is : Ok i ≡ answer_of u y) (is_right : RightAnswer u y (Ok i))
+        (p-is : p ≡ place_of (sample_with n u y (Ok i))) (m-is : m ≡ tray_holding l n 0 p) where
+      asked : hold_refusal l n 0 ≡ put_refusal l n u y
+      asked = sym (put_sized h ∙ ap (hold_refusal l n) (sym is_right.number))
 
-        pub put_held : Ok tt ≡ hold_answer l n → (a ≡ put_answer l n u y) × (m ≡ tray_after_put l n u y)
-        unfolding hold_answer tray_holding
-        put_held e =
-            let none : hold_refusal l n 0 ≡ 0 = answered_ok (hold_refusal l n 0) tt e in
-            let by = put_passed (sym asked ∙ none) in
-            (a_is ∙ sym by.0, rw (none, p-is, a_is) at m-is ∙ sym by.1)
+      pub put_refused : {r : Refusal} → Err r ≡ hold_answer l n → (Err r ≡ put_answer l n u y) × (m ≡ tray_after_put l n u y)
+      unfolding hold_answer tray_holding
+      put_refused {r} e =
+          let told = answered_err (hold_refusal l n 0) tt e in
+          let by = put_by (hold_refusal l n 0) (sym asked) told.1 in
+          (ap Err told.0 ∙ sym by.0, rw (some (hold_refusal l n 0) told.1) at m-is ∙ sym by.1)
+
+      pub put_held : Ok tt ≡ hold_answer l n → (Ok i ≡ put_answer l n u y) × (m ≡ tray_after_put l n u y)
+      unfolding hold_answer tray_holding
+      put_held e =
+          let none : hold_refusal l n 0 ≡ 0 = answered_ok (hold_refusal l n 0) tt e in
+          let by = put_passed (sym asked ∙ none) in
+          (ap as_put i_is ∙ sym by.0, rw (none, p-is, i_is) at m-is ∙ sym by.1)
 
   -- ---- taking out
   take_size : (length l ≡ tray_size → ⊥) → take_refusal l n ≡ not_a_tray

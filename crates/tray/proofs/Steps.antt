@@ -8,10 +8,10 @@ use borrow.Author.Tests.{eqb-true}
 use lib.ListN.{length}
 use Rattle.std.specs.Prelude.{Ok, Err}
 use Rattle.laws.proofs.Order.{by_test, by_order}
-use Rattle.index.specs.declared.answer.Answer.{Answer}
-use Rattle.index.specs.declared.answer.Answer.TheVariants as answer
+use Rattle.reference.specs.Refusal as pair
+use Rattle.laws.proofs.Contradiction.{not_some}
 use Rattle.index.specs.Questions.{refusal}
-use Rattle.index.specs.Answer.{RightAnswer}
+use Rattle.index.specs.Answer.{Answer, RightAnswer}
 use Rattle.index.specs.ChosenAnswer.{answer_of}
 use Rattle.index.proofs.Right.{right}
 use Rattle.answer_record.specs.Bytes.{stored}
@@ -23,40 +23,39 @@ use Rattle.tray_places.specs.Counts.{one, times, numbered}
 use Rattle.tray_places.proofs.Held.{times_none, times_one}
 use Rattle.tray_places.proofs.Kept.{length_numbers, length_freed}
 use Rattle.tray_places.proofs.Found.{every_tray, held_most, free_is_free, none_free, found_is_held, found_number, number_not_held, filled, emptied}
-use Rattle.tray_places.proofs.SamplesBack.{method_some}
-use Rattle.tray.specs.declared.refusal.Refusal.TheVariants.{NumberNotHeld}
-use Rattle.tray.specs.Tray.{held_refusal, full_refusal, not_held_refusal, held_as, hold_refusal, put_refusal, sample_with, tray_with, put_answer, tray_after_put, take_answer, tray_after_take}
+use Rattle.tray.specs.declared.refusal.Refusal.{Refusal}
+use Rattle.tray.specs.declared.refusal.Refusal.TheVariants.{Pair, NumberHeld, TrayFull, NumberNotHeld}
+use Rattle.tray.specs.Tray.{held_refusal, full_refusal, not_held_refusal, held_as, hold_refusal, put_refusal, sample_with, tray_with, as_put, put_answer, tray_after_put, take_answer, tray_after_take}
 use Rattle.tray.specs.Calls.{Call, Put, Take, Ask, after, in_by, out_by, samples_taken_in, samples_taken_out}
-use Rattle.tray.proofs.Questions.{no_pair, no_31, no_32, room, put_sized, put_by, put_passed, no_33, held, take_by, take_passed}
+use Rattle.tray.proofs.Questions.{no_31, no_32, room, put_sized, put_by, put_own, put_passed, no_33, held, take_by, take_passed}
 
 -- ---- an answered pair
 
 -- an answered pair is a sample
-sample_in : (n u y : ℕ) (a : Answer) → RightAnswer u y a → refusal u y ≡ 0 → in_by n u y a ≡ sample_with n u y a ∷ []
-sample_in n u y (answer.Refused k) r e = absurd (method_some u y (answer.Refused k) r e refl)
-sample_in n u y (answer.A k) r e = refl
-sample_in n u y (answer.B b) r e = refl
+sample_in : (n u y : ℕ) (a : Answer) → RightAnswer u y a → refusal u y ≡ 0 → in_by n u y (as_put a) ≡ sample_with n u y a ∷ []
+sample_in n u y (Err k) r e = not_some (pair.number_of_refusal k) (r.number ∙ e) r.case
+sample_in n u y (Ok index) r e = refl
 
 module _ (l : List ℕ) (h : length l ≡ tray_size) (n : ℕ) where
   -- ---- the outcomes of a put
   module _ (u y : ℕ) where
-    pub pair_first : 0 < refusal u y → (put_answer l n u y ≡ answer.Refused (refusal u y)) × (tray_after_put l n u y ≡ l)
-    pair_first p = put_by l n u y (refusal u y) (put_sized l n u y h ∙ no_pair l n (refusal u y) p) p
+    pub pair_first : 0 < refusal u y → (put_answer l n u y ≡ Err (Pair (pair.refusal_of (refusal u y)))) × (tray_after_put l n u y ≡ l)
+    pair_first p = put_own l n u y h p
 
     module _ (passed : refusal u y ≡ 0) where
       sized : put_refusal l n u y ≡ hold_refusal l n 0
       sized = put_sized l n u y h ∙ ap (hold_refusal l n) passed
 
-      pub refused_31 : 0 < held_as l n → (put_answer l n u y ≡ answer.Refused held_refusal) × (tray_after_put l n u y ≡ l)
+      pub refused_31 : 0 < held_as l n → (put_answer l n u y ≡ Err NumberHeld) × (tray_after_put l n u y ≡ l)
       refused_31 k = put_by l n u y held_refusal (sized ∙ no_31 l n k) (omega arith)
 
-      pub refused_32 : held_as l n ≡ 0 → length (held_in l) ≡ places → (put_answer l n u y ≡ answer.Refused full_refusal) × (tray_after_put l n u y ≡ l)
+      pub refused_32 : held_as l n ≡ 0 → length (held_in l) ≡ places → (put_answer l n u y ≡ Err TrayFull) × (tray_after_put l n u y ≡ l)
       refused_32 k f = put_by l n u y full_refusal (sized ∙ no_32 l n k (omega arith)) (omega arith)
 
       abbrev s : Sample
       s = sample_with n u y (answer_of u y)
 
-      pub put_answered : held_as l n ≡ 0 → length (held_in l) < places → (put_answer l n u y ≡ answer_of u y) × (tray_after_put l n u y ≡ tray_with l s)
+      pub put_answered : held_as l n ≡ 0 → length (held_in l) < places → (put_answer l n u y ≡ as_put (answer_of u y)) × (tray_after_put l n u y ≡ tray_with l s)
       put_answered k f = put_passed l n u y (sized ∙ room l n k f)
 
       pub one_in : length (held_in l) < places → (test : Sample → Bool) → times test (held_in (tray_with l s)) ≡ times test (held_in l) + one (test s)
@@ -131,12 +130,12 @@ module _ (l : List ℕ) (c : Call) where
 
 put_step : (l : List ℕ) (n u y : ℕ) → length l ≡ tray_size → Step l (Put n u y)
 put_step l n u y h =
-    let refused : (k : ℕ) → (put_answer l n u y ≡ answer.Refused k) × (tray_after_put l n u y ≡ l) → Step l (Put n u y) =
-    λ k both. unchanged l (Put n u y) h both.1 (ap (in_by n u y) both.0) refl in
-    by_order 0 (refusal u y) (λ p. refused (refusal u y) (pair_first l h n u y p))
+    let refused : (r : Refusal) → (put_answer l n u y ≡ Err r) × (tray_after_put l n u y ≡ l) → Step l (Put n u y) =
+    λ r both. unchanged l (Put n u y) h both.1 (ap (in_by n u y) both.0) refl in
+    by_order 0 (refusal u y) (λ p. refused _ (pair_first l h n u y p))
     (λ z.
     let passed : refusal u y ≡ 0 = omega arith in
-    by_order 0 (held_as l n) (λ p. refused held_refusal (refused_31 l h n u y passed p))
+    by_order 0 (held_as l n) (λ p. refused NumberHeld (refused_31 l h n u y passed p))
     (λ q.
     let new : held_as l n ≡ 0 = omega arith in
     by_order (length (held_in l)) places
@@ -144,7 +143,7 @@ put_step l n u y h =
     let both = put_answered l h n u y passed new few in
     gained l (Put n u y) (tray_with l (sample_with n u y (answer_of u y))) (sample_with n u y (answer_of u y)) (length_stored l _ _ ∙ h) both.1
     (ap (in_by n u y) both.0 ∙ sample_in n u y (answer_of u y) (right u y) passed) refl (one_in l h n u y passed few) new)
-    (λ many. refused full_refusal (refused_32 l h n u y passed new (omega (arith, held_most l))))))
+    (λ many. refused TrayFull (refused_32 l h n u y passed new (omega (arith, held_most l))))))
 
 take_step : (l : List ℕ) (n : ℕ) → length l ≡ tray_size → Step l (Take n)
 take_step l n h =

@@ -12,8 +12,7 @@ use lib.Signed.{mag}
 use Rattle.std.specs.Prelude.{Option, Some, None, Ok}
 use Rattle.laws.specs.Bits.{half32, span32}
 use Rattle.laws.proofs.Order.{by_test, by_order}
-use Rattle.index.specs.declared.answer.Answer.{Answer}
-use Rattle.index.specs.Answer.{method_of, index_of}
+use Rattle.index.specs.Answer.{Answer, method_of, index_of}
 use Rattle.index_summary.specs.declared.Summary.{Summary}
 use Rattle.index_summary.specs.Summary.{one, joined_of, count_of, SummaryOf}
 use Rattle.index_summary.specs.Preconditions.{Within}

@@ -1,8 +1,6 @@
 -- Change request #102: "every list of these calls from an empty tray". What a call and a list of calls leave and answer, and which samples they take in and out.
 use Rattle.std.specs.Prelude.{ℕ, List, [], ◌∷◌, ◌++◌, Option, Result, Ok, Err}
-use Rattle.index.specs.declared.answer.Answer.{Answer}
-use Rattle.index.specs.declared.answer.Answer.TheVariants as answer
-use Rattle.index.specs.Answer.{number_of}
+use Rattle.index.specs.declared.answer.Index.{Index}
 use Rattle.index_summary.specs.declared.Summary.{Summary}
 use Rattle.tray_places.specs.declared.samples.Sample.{Sample}
 use Rattle.tray.specs.declared.refusal.Refusal.{Refusal}
@@ -21,7 +19,7 @@ refused_by (Err refusal) = number_of_refusal refusal
 refused_by (Ok x) = 0
 
 abbrev pub call_refusal : List ℕ → Call → ℕ
-call_refusal tray (Put number u y) = number_of (put_answer tray number u y)
+call_refusal tray (Put number u y) = refused_by (put_answer tray number u y)
 call_refusal tray (Take number) = refused_by (take_answer tray number)
 call_refusal tray Ask = refused_by (state_of tray)
 
@@ -37,7 +35,7 @@ after_all tray (call ∷ calls) = after_all (after tray call) calls
 
 -- what a call answers, and what a list of calls answers, one after the other
 pub data CallAnswer : Type 0 where
-  ToPut : Answer → CallAnswer
+  ToPut : Result Index Refusal → CallAnswer
   ToTake : Result Sample Refusal → CallAnswer
   ToAsk : Result (Option Summary) Refusal → CallAnswer
 
@@ -51,10 +49,9 @@ answers_to tray [] = []
 answers_to tray (call ∷ calls) = call_answer tray call ∷ answers_to (after tray call) calls
 
 -- the samples, one or none, that a call takes in and that it takes out: those that its answer says
-abbrev pub in_by : ℕ → ℕ → ℕ → Answer → List Sample
-in_by number u y (answer.Refused refused) = []
-in_by number u y (answer.A index) = sample_with number u y (answer.A index) ∷ []
-in_by number u y (answer.B b) = sample_with number u y (answer.B b) ∷ []
+abbrev pub in_by : ℕ → ℕ → ℕ → Result Index Refusal → List Sample
+in_by number u y (Err refusal) = []
+in_by number u y (Ok index) = sample_with number u y (Ok index) ∷ []
 
 abbrev pub out_by : Result Sample Refusal → List Sample
 out_by (Err refusal) = []

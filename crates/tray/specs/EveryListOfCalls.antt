@@ -1,7 +1,8 @@
 -- Change request #102, of lists of calls: "Samples held equal samples taken in less samples taken out, over every list of these calls from an empty tray. A refused
 -- call changes nothing, and 32 comes only with 64 held." What holds after every list of calls, and of each single call on any tray.
 use Rattle.std.specs.Prelude.{ℕ, ◌+◌, ◌≤◌, ◌<◌, ◌≡◌, Bool, List, length, Ok, Err}
-use Rattle.index.specs.declared.answer.Answer.TheVariants as answer
+use Rattle.reference.specs.declared.refusal.Refusal as of_pair
+use Rattle.reference.specs.Refusal as pair
 use Rattle.index.specs.Questions.{refusal}
 use Rattle.index.specs.Answer.{RightAnswer}
 use Rattle.index.specs.ChosenAnswer.{answer_of}
@@ -9,7 +10,7 @@ use Rattle.tray_places.specs.declared.samples.Sample.{Sample}
 use Rattle.tray_places.specs.Places.{empty_tray, held_in}
 use Rattle.tray_places.specs.Counts.{one, times, numbered, same}
 use Rattle.tray.specs.declared.refusal.Refusal.TheVariants.{NotATray, Pair, NumberHeld, TrayFull, NumberNotHeld}
-use Rattle.tray.specs.Tray.{number_of_refusal, held_as, sample_with, put_answer, take_answer}
+use Rattle.tray.specs.Tray.{number_of_refusal, held_as, sample_with, as_put, put_answer, take_answer}
 use Rattle.tray.specs.Calls.{Call, Put, Take, call_refusal, after, after_all, all_taken_in, all_taken_out}
 
 -- the samples that are held after a list of calls from the empty tray, that it took in and that it took out
@@ -40,12 +41,12 @@ pub record EveryList (calls : List Call) : Type 0 where
   pub alone : (s : Sample) → 0 < times (same s) (held calls)
       → (refusal s.u s.y ≡ 0) × (s.answer ≡ answer_of s.u s.y) × RightAnswer s.u s.y s.answer
   -- "32 comes only with 64 held", whatever is put in next
-  pub full : (number u y : ℕ) → put_answer (after_all empty_tray calls) number u y ≡ answer.Refused 32 → length (held calls) ≡ 64
+  pub full : (number u y : ℕ) → put_answer (after_all empty_tray calls) number u y ≡ Err TrayFull → length (held calls) ≡ 64
 
 -- the numbers of the questions: of the pair's own, theirs; "31 number already held, 32 tray full"; "33 number not held"
 pub record QuestionNumbers : Type 0 where
   pub lent : number_of_refusal NotATray ≡ 5
-  pub pair : (number : ℕ) → number_of_refusal (Pair number) ≡ number
+  pub pair : (question : of_pair.Refusal) → number_of_refusal (Pair question) ≡ pair.number_of_refusal question
   pub held : number_of_refusal NumberHeld ≡ 31
   pub full : number_of_refusal TrayFull ≡ 32
   pub not_held : number_of_refusal NumberNotHeld ≡ 33
@@ -59,7 +60,7 @@ pub record GivesOut (tray : List ℕ) (number : ℕ) : Type 0 where
 
 -- memory that is not just 512 numbers: 5, whatever is asked, and it is left as it is
 pub record OtherMemory (tray : List ℕ) (other : length tray ≡ 512 → ⊥) : Type 0 where
-  pub put : (number u y : ℕ) → put_answer tray number u y ≡ answer.Refused 5
+  pub put : (number u y : ℕ) → put_answer tray number u y ≡ Err NotATray
   pub take : (number : ℕ) → take_answer tray number ≡ Err NotATray
   pub left : (call : Call) → after tray call ≡ tray
 
@@ -68,13 +69,13 @@ pub record EveryCall (tray : List ℕ) (lent : length tray ≡ 512) : Type 0 whe
   -- "A refused call changes nothing"
   pub unchanged : (call : Call) → 0 < call_refusal tray call → after tray call ≡ tray
   -- "both after the pair's own questions": a refused pair is refused by its own number
-  pub pair_first : (number u y : ℕ) → 0 < refusal u y → put_answer tray number u y ≡ answer.Refused (refusal u y)
+  pub pair_first : (number u y : ℕ) → 0 < refusal u y → put_answer tray number u y ≡ Err (Pair (pair.refusal_of (refusal u y)))
   -- "31 number already held, 32 tray full"
-  pub number_held : (number u y : ℕ) → refusal u y ≡ 0 → 0 < held_as tray number → put_answer tray number u y ≡ answer.Refused 31
-  pub tray_full : (number u y : ℕ) → refusal u y ≡ 0 → held_as tray number ≡ 0 → length (held_in tray) ≡ 64 → put_answer tray number u y ≡ answer.Refused 32
+  pub number_held : (number u y : ℕ) → refusal u y ≡ 0 → 0 < held_as tray number → put_answer tray number u y ≡ Err NumberHeld
+  pub tray_full : (number u y : ℕ) → refusal u y ≡ 0 → held_as tray number ≡ 0 → length (held_in tray) ≡ 64 → put_answer tray number u y ≡ Err TrayFull
   -- otherwise the pair's answer is given, and just this sample is held more
   pub put_in : (number u y : ℕ) → refusal u y ≡ 0 → held_as tray number ≡ 0 → length (held_in tray) < 64
-      → (put_answer tray number u y ≡ answer_of u y)
+      → (put_answer tray number u y ≡ as_put (answer_of u y))
       × ((test : Sample → Bool) → times test (held_in (after tray (Put number u y))) ≡ times test (held_in tray) + one (test (sample_with number u y (answer_of u y))))
   -- "33 number not held"
   pub not_held : (number : ℕ) → held_as tray number ≡ 0 → take_answer tray number ≡ Err NumberNotHeld

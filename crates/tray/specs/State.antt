@@ -1,7 +1,7 @@
 -- Change request #102: "Asked, it gives the lowest and highest index, the sum of indices and the count for each of A, B settled and B near; an empty tray says
 -- so."
+use Rattle.index.specs.Answer.{Answer}
 use Rattle.std.specs.Prelude.{ℕ, ◌+◌, ◌≡◌, cond, ◌&&◌, List, [], ◌∷◌, map, eqb, length, Option, Some, None, Result, Ok, Err}
-use Rattle.index.specs.declared.answer.Answer.{Answer}
 use Rattle.index_summary.specs.declared.Summary.{Summary}
 use Rattle.index_summary.specs.Summary.{alone_of, joined_of, nothing, SummaryOf}
 use Rattle.tray_places.specs.declared.samples.Sample.{Sample}

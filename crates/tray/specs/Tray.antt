@@ -1,10 +1,11 @@
 -- Change request #102: what putting in and taking out answer, and the tray afterwards. "Refused: 31 number already held, 32 tray full, both after the pair's own
 -- questions; 33 number not held, on taking out." The lent memory is asked for its size first, as document 01 asks the pair's record. A sample's number has no bound
 -- here; that it has 32 bits, the operations say (#104: "The tray takes numbers up to 4,294,967,295"; before it was one byte).
+use Rattle.index.specs.Answer.{Answer}
 use Rattle.std.specs.Prelude.{ℕ, ◌*◌, Bool, cond, List, eqb, ltb, length, Result, Ok, Err}
 use Rattle.laws.specs.Questions.{ask}
-use Rattle.index.specs.declared.answer.Answer.{Answer}
-use Rattle.index.specs.declared.answer.Answer.TheVariants as answer
+use Rattle.reference.specs.Refusal as pair
+use Rattle.index.specs.declared.answer.Index.{Index}
 use Rattle.index.specs.Questions.{refusal}
 use Rattle.index.specs.ChosenAnswer.{answer_of}
 use Rattle.answer_record.specs.Bytes.{stored}
@@ -34,7 +35,7 @@ not_held_refusal = 33
 -- the number of a refusal, and the refusal of a number
 abbrev pub number_of_refusal : Refusal → ℕ
 number_of_refusal NotATray = not_a_tray
-number_of_refusal (Pair number) = number
+number_of_refusal (Pair question) = pair.number_of_refusal question
 number_of_refusal NumberHeld = held_refusal
 number_of_refusal TrayFull = full_refusal
 number_of_refusal NumberNotHeld = not_held_refusal
@@ -44,7 +45,7 @@ refusal_of number =
     cond (eqb number not_a_tray) NotATray
     (cond (eqb number held_refusal) NumberHeld
     (cond (eqb number full_refusal) TrayFull
-    (cond (eqb number not_held_refusal) NumberNotHeld (Pair number))))
+    (cond (eqb number not_held_refusal) NumberNotHeld (Pair (pair.refusal_of number)))))
 
 -- what is answered where the questions gave that number, 0 where none refuses
 abbrev pub answered : {X : Type 0} → ℕ → X → Result X Refusal
@@ -100,9 +101,14 @@ tray_holding tray number pair place = cond (eqb (hold_refusal tray number pair) 
 unfoldable pub hold_answer : List ℕ → ℕ → Result (Unit {0}) Refusal
 hold_answer tray number = answered (hold_refusal tray number 0) tt
 
+-- a pair's answer as a put gives it: its refusal is one of the pair's own questions
+abbrev pub as_put : Answer → Result Index Refusal
+as_put (Err question) = Err (Pair question)
+as_put (Ok index) = Ok index
+
 -- "Putting in takes a number, u and y and gives the pair's answer"
-unfoldable pub put_answer : List ℕ → ℕ → ℕ → ℕ → Answer
-put_answer tray number u y = cond (eqb (put_refusal tray number u y) 0) (answer_of u y) (answer.Refused (put_refusal tray number u y))
+unfoldable pub put_answer : List ℕ → ℕ → ℕ → ℕ → Result Index Refusal
+put_answer tray number u y = cond (eqb (put_refusal tray number u y) 0) (as_put (answer_of u y)) (Err (refusal_of (put_refusal tray number u y)))
 
 -- "A refused call changes nothing"
 unfoldable pub tray_after_put : List ℕ → ℕ → ℕ → ℕ → List ℕ

@@ -10,8 +10,7 @@ pub mod state;
 ghost use Rattle.std.specs.Prelude.{◌≡◌};
 ghost use Rattle.tray.specs.Tray.{hold_answer, tray_holding, put_answer, tray_after_put, take_answer, tray_after_take};
 
-use index::Answer;
-use index::answer::{ANSWERED, number_of};
+use index::Index;
 pub use index_summary::Summary;
 pub use refusal::Refusal;
 pub use state::summary;
@@ -31,28 +30,23 @@ pub fn hold(tray: &mut [u32; TRAY_SIZE], number: u32, place: Place) -> Result<()
     Ok(())
 }
 
-// Puts a sample in: the pair's answer, or refused by the question of that number.
-pub fn put(tray: &mut [u32], number: u32, u: u32, y: u32) -> Answer
+// Puts a sample in: the pair's index.
+pub fn put(tray: &mut [u32], number: u32, u: u32, y: u32) -> Result<Index, Refusal>
     ensures answer { result ≡ put_answer tray.old number u y }
     ensures numbers { tray.new ≡ tray_after_put tray.old number u y }
 {
     let Some(tray) = tray.as_mut_array::<TRAY_SIZE>() else {
-        return Answer::Refused(u8::from(Refusal::NotATray));
+        return Err(Refusal::NotATray);
     };
-    let answer = index::answer_pair(u, y);
-    if number_of(answer) != ANSWERED {
-        return answer;
-    }
+    let index = index::answer_pair(u, y)?;
     let place = Place::from(Sample {
         number,
         u,
         y,
-        answer,
+        answer: Ok(index),
     });
-    match hold(tray, number, place) {
-        Ok(()) => answer,
-        Err(refusal) => Answer::Refused(u8::from(refusal)),
-    }
+    hold(tray, number, place)?;
+    Ok(index)
 }
 
 // Takes a sample out.

@@ -5,7 +5,7 @@ ghost use Rattle.tray.specs.State.{state_after, state_of, RightState, with_place
 ghost use Rattle.index_summary.specs.Preconditions.{Within};
 
 use crate::Refusal;
-use index_summary::{Summary, is_of_none, joined, nothing};
+use index_summary::Summary;
 use tray_places::{PLACE_SIZE, Place, TRAY_SIZE, is_free, places_in};
 
 // The summary with one place more.
@@ -16,14 +16,14 @@ fn with_place(place: &[u32; PLACE_SIZE], t: Summary) -> Summary
     if is_free(place) {
         return t;
     }
-    joined(t, Place::from(place).answer())
+    t.joined(Place::from(place).answer())
 }
 
 // The summary of the samples held, place by place.
 pub fn walk(tray: &[u32; TRAY_SIZE]) -> Summary
     ensures { result ≡ summary_in (state_after None (held_in tray.now)) }
 {
-    let mut t = nothing();
+    let mut t = Summary::default();
     for place in places_in(tray) {
         t = with_place(place, t);
     }
@@ -34,10 +34,7 @@ pub fn walk(tray: &[u32; TRAY_SIZE]) -> Summary
 pub fn state_with(t: Summary) -> Option<Summary>
     ensures { result ≡ state_with t }
 {
-    if is_of_none(t) {
-        return None;
-    }
-    Some(t)
+    if t.is_of_none() { None } else { Some(t) }
 }
 
 // The state of a tray: what it holds comes to, none where it is empty.

@@ -11,9 +11,8 @@ use mir.Facts.{to_z_pos}
 use mir.Syntax.{w32, w64}
 use mir.Val.{to_z, of_z, SFits}
 use Rattle.laws.specs.Bits.{span32}
-use Rattle.index.specs.declared.answer.Answer.{Answer}
-use Rattle.index.specs.declared.answer.Answer.TheVariants as answer
-use Rattle.index.specs.Answer.{number_of, method_of, index_of, lower_of, upper_of}
+use Rattle.index.specs.declared.answer.Index.TheVariants as answer
+use Rattle.index.specs.Answer.{Answer, number_of, method_of, index_of, lower_of, upper_of}
 use Rattle.index.specs.ChosenAnswer.{answer_of}
 use Rattle.index.proofs.Fits.{fits}
 use Rattle.index.proofs.Right.{right}

@@ -9,8 +9,7 @@ use lib.IntN.{ℤ, pos}
 use lib.ListN.{length}
 use Rattle.std.specs.Prelude.{Option, Some, None, Result, Ok, Err}
 use Rattle.laws.proofs.Order.{by_test}
-use Rattle.index.specs.declared.answer.Answer.{Answer}
-use Rattle.index.specs.Answer.{number_of}
+use Rattle.index.specs.Answer.{Answer, number_of}
 use Rattle.answer_record.specs.Record.{result_size}
 use Rattle.index_summary.specs.declared.Summary.{Summary}
 use Rattle.index_summary.specs.Summary.{SummaryOf}

@@ -2,8 +2,7 @@
 -- tray's own questions, of which the first no gives its number, with all lent memory untouched; otherwise what was asked for is filled in, and 0 is answered.
 use Rattle.std.specs.Prelude.{ℕ, ◌+◌, Bool, cond, ◌&&◌, List, [], ◌∷◌, eqb, ℤ, pos, length, get_or, Option, Some, None, Result, Ok, Err}
 use Rattle.laws.specs.Questions.{ask}
-use Rattle.index.specs.declared.answer.Answer.{Answer}
-use Rattle.index.specs.Answer.{number_of}
+use Rattle.index.specs.Answer.{Answer, number_of}
 use Rattle.answer_record.specs.Bytes.{number_at}
 use Rattle.answer_record.specs.Record.{result_size, method_offset, index_offset, lower_offset, upper_offset, record_of}
 use Rattle.index_summary.specs.declared.Summary.{Summary}

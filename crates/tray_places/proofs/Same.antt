@@ -11,12 +11,13 @@ use lib.IntN.{ℤ, pos, negsuc}
 use Rattle.laws.proofs.Computed.{both_pass}
 use Rattle.laws.proofs.Contradiction.{impossible}
 use Rattle.laws.proofs.Order.{by_test}
+use Rattle.std.specs.Prelude.{Ok, Err}
+use Rattle.index.proofs.Determined.{same_refusal}
 use Rattle.shown_index.specs.declared.Mark.{Mark}
 use Rattle.shown_index.specs.declared.Mark.TheVariants as mark
 use Rattle.shown_index.specs.declared.ByB.{ByB}
-use Rattle.index.specs.declared.answer.Answer.{Answer}
-use Rattle.index.specs.declared.answer.Answer.TheVariants as answer
-use Rattle.index.specs.Answer.{number_of, method_of, method_of_mark, index_of, lower_of, upper_of}
+use Rattle.index.specs.declared.answer.Index.TheVariants as answer
+use Rattle.index.specs.Answer.{Answer, number_of, method_of, method_of_mark, index_of, lower_of, upper_of}
 use Rattle.tray_places.specs.declared.samples.Sample.{Sample}
 use Rattle.tray_places.specs.Counts.{one, times, numbered, same_index, same_answer, same, SameSample}
 
@@ -47,16 +48,16 @@ b_same b d i m l p = let index : b.index ≡ d.index = cc in rw (index, m, l, p)
 
 answer_is : (a b : Answer) → number_of a ≡ number_of b → method_of a ≡ method_of b → index_of a ≡ index_of b → lower_of a ≡ lower_of b
     → upper_of a ≡ upper_of b → a ≡ b
-answer_is (answer.Refused m) (answer.Refused n) number method index lower upper = ap answer.Refused number
-answer_is (answer.Refused m) (answer.A n) number method index lower upper = absurd (omega (arith, method))
-answer_is (answer.Refused m) (answer.B d) number method index lower upper = absurd (omega (arith, method, mark_method d.mark))
-answer_is (answer.A m) (answer.Refused n) number method index lower upper = absurd (omega (arith, method))
-answer_is (answer.A m) (answer.A n) number method index lower upper = ap answer.A index
-answer_is (answer.A m) (answer.B d) number method index lower upper = absurd (omega (arith, method, mark_method d.mark))
-answer_is (answer.B b) (answer.Refused n) number method index lower upper = absurd (omega (arith, method, mark_method b.mark))
-answer_is (answer.B b) (answer.A n) number method index lower upper = absurd (omega (arith, method, mark_method b.mark))
-answer_is (answer.B b) (answer.B d) number method index lower upper =
-    ap answer.B (b_same b d index (mark_same b.mark d.mark method) lower upper)
+answer_is (Err m) (Err n) number method index lower upper = ap Err (same_refusal m n number)
+answer_is (Err m) (Ok (answer.A n)) number method index lower upper = absurd (omega (arith, method))
+answer_is (Err m) (Ok (answer.B d)) number method index lower upper = absurd (omega (arith, method, mark_method d.mark))
+answer_is (Ok (answer.A m)) (Err n) number method index lower upper = absurd (omega (arith, method))
+answer_is (Ok (answer.A m)) (Ok (answer.A n)) number method index lower upper = ap (λ (i : ℤ). Ok (answer.A i)) index
+answer_is (Ok (answer.A m)) (Ok (answer.B d)) number method index lower upper = absurd (omega (arith, method, mark_method d.mark))
+answer_is (Ok (answer.B b)) (Err n) number method index lower upper = absurd (omega (arith, method, mark_method b.mark))
+answer_is (Ok (answer.B b)) (Ok (answer.A n)) number method index lower upper = absurd (omega (arith, method, mark_method b.mark))
+answer_is (Ok (answer.B b)) (Ok (answer.B d)) number method index lower upper =
+    ap (λ (e : ByB). Ok (answer.B e)) (b_same b d index (mark_same b.mark d.mark method) lower upper)
 
 -- ---- the test
 

@@ -6,12 +6,15 @@ use mathlib.Core.List.{List}
 use native.Mathlib.Omega.{arith}
 use borrow.Author.Rules.{sfits_of}
 use lib.ListN.{length}
+use lib.IntN.{ℤ}
+use Rattle.std.specs.Prelude.{Ok, Err}
+use Rattle.laws.proofs.Contradiction.{not_some}
+use Rattle.reference.specs.Refusal.{number_of_refusal}
 use Rattle.shown_index.specs.declared.Mark.{Mark}
 use Rattle.shown_index.specs.declared.Mark.TheVariants as mark
 use Rattle.shown_index.specs.declared.ByB.{ByB}
-use Rattle.index.specs.declared.answer.Answer.{Answer}
-use Rattle.index.specs.declared.answer.Answer.TheVariants.{Refused, A, B}
-use Rattle.index.specs.Answer.{method_of, index_of, lower_of, upper_of, RightAnswer}
+use Rattle.index.specs.declared.answer.Index.TheVariants.{A, B}
+use Rattle.index.specs.Answer.{Answer, method_of, index_of, lower_of, upper_of, RightAnswer}
 use Rattle.index.specs.Questions.{refusal}
 use Rattle.index.specs.ChosenAnswer.{answer_of}
 use Rattle.index.proofs.Fits.{Fits, fits}
@@ -32,16 +35,16 @@ pub placed : (s : Sample) {method index lower upper : ℕ} → method ≡ method
 unfolding place_of
 placed s m i l p = rw (m, i, l, p)
 
-marked_back : (b : ByB) (m : Mark) → b.mark ≡ m → answer_from (method_of (B b)) b.index b.lower b.upper ≡ B b
+marked_back : (b : ByB) (m : Mark) → b.mark ≡ m → answer_from (method_of (Ok (B b))) b.index b.lower b.upper ≡ Ok (B b)
 unfolding answer_from
 marked_back b mark.Settled h = rw h
 marked_back b mark.Near h = rw h
 
 answer_back : (a : Answer) → (method_of a ≡ 0 → ⊥) → Fits a → answer_from (method_of a) (twos_complement (index_of a)) (lower_of a) (upper_of a) ≡ a
 unfolding answer_from
-answer_back (Refused n) z f = absurd (z refl)
-answer_back (A k) z f = ap A (signed_back k (sfits_of f.index))
-answer_back (B b) z f = marked_back b b.mark refl
+answer_back (Err n) z f = absurd (z refl)
+answer_back (Ok (A k)) z f = ap (λ (i : ℤ). Ok (A i)) (signed_back k (sfits_of f.index))
+answer_back (Ok (B b)) z f = marked_back b b.mark refl
 
 sample_back : (s : Sample) → (method_of s.answer ≡ 0 → ⊥) → Fits s.answer → sample_of (place_of s) ≡ s
 unfolding place_of
@@ -49,12 +52,9 @@ sample_back s h f = rw (answer_back s.answer h f)
 
 -- an answered pair has a method
 pub method_some : (u y : ℕ) (a : Answer) → RightAnswer u y a → refusal u y ≡ 0 → method_of a ≡ 0 → ⊥
-method_some u y (Refused k) r e z =
-    let number : k ≡ refusal u y = r.number in
-    let some : 0 < k = r.case in
-    omega arith
-method_some u y (A k) r e z = omega (arith, z)
-method_some u y (B b) r e z = omega (arith, z, mark_method b.mark)
+method_some u y (Err k) r e z = not_some (number_of_refusal k) (r.number ∙ e) r.case
+method_some u y (Ok (A k)) r e z = omega (arith, z)
+method_some u y (Ok (B b)) r e z = omega (arith, z, mark_method b.mark)
 
 placed_some : (s : Sample) → (method_of s.answer ≡ 0 → ⊥) → (place_of s).method ≡ 0 → ⊥
 unfolding place_of

@@ -1,8 +1,7 @@
 -- How many samples of a list pass a test: how change request #102's "Samples held equal samples taken in less samples taken out" is counted, of each sample.
 use Rattle.std.specs.Prelude.{ℕ, ◌+◌, ◌≡◌, Bool, true, cond, ◌&&◌, List, [], ◌∷◌, eqb, ℤ}
 use Rattle.std.specs.Int.Signed.{le_z}
-use Rattle.index.specs.declared.answer.Answer.{Answer}
-use Rattle.index.specs.Answer.{number_of, method_of, index_of, lower_of, upper_of}
+use Rattle.index.specs.Answer.{Answer, number_of, method_of, index_of, lower_of, upper_of}
 use Rattle.tray_places.specs.declared.samples.Sample.{Sample}
 
 abbrev pub one : Bool → ℕ

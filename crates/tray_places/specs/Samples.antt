@@ -1,11 +1,10 @@
 -- Change request #102: a sample, "with a number of one byte, its pair and its answer", as the numbers of a place of the tray. Its number has no bound here; since
 -- #104 it is of 32 bits.
-use Rattle.std.specs.Prelude.{ℕ, cond, eqb}
+use Rattle.std.specs.Prelude.{ℕ, cond, eqb, Ok}
 use Rattle.shown_index.specs.declared.Mark.{Mark}
 use Rattle.shown_index.specs.declared.Mark.TheVariants.{Settled, Near}
-use Rattle.index.specs.declared.answer.Answer.{Answer}
-use Rattle.index.specs.declared.answer.Answer.TheVariants.{A, B}
-use Rattle.index.specs.Answer.{method_of, index_of, lower_of, upper_of}
+use Rattle.index.specs.declared.answer.Index.TheVariants.{A, B}
+use Rattle.index.specs.Answer.{Answer, method_of, index_of, lower_of, upper_of}
 use Rattle.answer_record.specs.Bytes.{twos_complement, signed_of}
 use Rattle.tray_places.specs.declared.samples.Sample.{Sample}
 use Rattle.tray_places.specs.declared.samples.Place.{Place}
@@ -28,7 +27,7 @@ mark_from method = cond (eqb method 2) Settled Near
 
 unfoldable pub answer_from : ℕ → ℕ → ℕ → ℕ → Answer
 answer_from method index lower upper =
-    cond (eqb method 1) (A (signed_of index)) (B (record { index = index; mark = mark_from method; lower = lower; upper = upper }))
+    cond (eqb method 1) (Ok (A (signed_of index))) (Ok (B (record { index = index; mark = mark_from method; lower = lower; upper = upper })))
 
 abbrev pub sample_of : Place → Sample
 sample_of place = record {

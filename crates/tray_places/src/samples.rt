@@ -2,12 +2,13 @@
 ghost use Rattle.std.specs.Prelude.{◌≡◌};
 ghost use Rattle.tray_places.specs.Samples.{mark_from, answer_from, sample_of, place_of};
 
-use index::Answer;
-use index::answer::{METHOD_A, METHOD_B_SETTLED, method_of};
+use answer_record::Record;
+use index::answer::{METHOD_A, METHOD_B_SETTLED};
+use index::{Answer, Index};
 use shown_index::{ByB, Mark};
 
 // A sample: its number, its pair and its answer.
-#[derive(Clone, Copy)]
+#[derive(Clone, Copy, Debug, PartialEq, Eq)]
 pub struct Sample {
     pub number: u32,
     pub u: u32,
@@ -43,14 +44,14 @@ impl Place {
         ensures { result ≡ answer_from self.method self.index self.lower self.upper }
     {
         if self.method == u32::from(METHOD_A) {
-            return Answer::A(self.index.cast_signed());
+            return Ok(Index::A(self.index.cast_signed()));
         }
-        Answer::B(ByB {
+        Ok(Index::B(ByB {
             index: self.index,
             mark: mark_from(self.method),
             lower: self.lower,
             upper: self.upper,
-        })
+        }))
     }
 }
 
@@ -73,19 +74,15 @@ impl From<Sample> for Place {
     ghost from_gives = { λ sample place. place ≡ place_of sample };
 
     fn from(sample: Sample) -> Place {
-        let (index, lower, upper) = match sample.answer {
-            Answer::Refused(_) => (0, 0, 0),
-            Answer::A(index) => (index.cast_unsigned(), 0, 0),
-            Answer::B(b) => (b.index, b.lower, b.upper),
-        };
+        let fields = Record::from(sample.answer);
         Place {
-            method: u32::from(method_of(sample.answer)),
+            method: u32::from(fields.method),
             number: sample.number,
             u: sample.u,
             y: sample.y,
-            index,
-            lower,
-            upper,
+            index: fields.index,
+            lower: fields.lower,
+            upper: fields.upper,
         }
     }
 }

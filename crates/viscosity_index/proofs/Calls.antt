@@ -3,8 +3,7 @@ use Prim.Native.Nat.{ℕ}
 use mathlib.Core.Path.{◌≡◌, refl, ap, ◌∙◌}
 use mathlib.Core.List.{List}
 use lib.ListN.{length}
-use Rattle.index.specs.declared.answer.Answer.{Answer}
-use Rattle.index.specs.Answer.{number_of, RightAnswer}
+use Rattle.index.specs.Answer.{Answer, number_of, RightAnswer}
 use Rattle.index.specs.ChosenAnswer.{answer_of}
 use Rattle.answer_record.specs.Record.{result_size, record_of}
 use Rattle.sheet.specs.declared.SheetAnswer.{SheetAnswer}

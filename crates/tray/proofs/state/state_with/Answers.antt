@@ -7,6 +7,6 @@ pub returns-then-is_of_none : goal.returns-then-is_of_none
 unfolding state_with
 returns-then-is_of_none c = let none = sym c.is_of_none.ensures ∙ c.if-is_of_none.true in rw none
 
-pub returns : goal.returns
+pub returns-else-is_of_none : goal.returns-else-is_of_none
 unfolding state_with
-returns c = let some = sym c.is_of_none.ensures ∙ c.if-is_of_none.false in rw some
+returns-else-is_of_none c = let some = sym c.is_of_none.ensures ∙ c.if-is_of_none.false in rw some

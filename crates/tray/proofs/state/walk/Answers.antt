@@ -10,7 +10,7 @@ use Rattle.tray.proofs.Walk.{walk_zero, walk_place, walk_fits, index_small}
 use Rattle.tray.proofs.state.walk.Goals as goal
 
 pub loop-place-init : goal.loop-place-init
-loop-place-init c = c.nothing-t.ensures ∙ ap summary_in (walk_zero _ _)
+loop-place-init c = c.default-t.ensures ∙ ap summary_in (walk_zero _ _)
 
 pub with_place-t-requires : goal.with_place-t-requires
 with_place-t-requires c =
