@@ -6,9 +6,9 @@ use mathlib.Core.List.{List, [], ◌∷◌}
 use native.Mathlib.Omega.{arith}
 use borrow.Author.Tests.{eq-eqb, ne_eqb}
 use lib.ListN.{length}
-use Rattle.std.specs.Prelude.{None, Ok}
+use Rattle.std.specs.Prelude.{None, Ok, Err}
 use Rattle.laws.proofs.Order.{by_test}
-use Rattle.index.specs.declared.answer.Index.TheVariants as answer
+use Rattle.tray.specs.declared.refusal.Refusal.TheVariants.{NumberHeld}
 use Rattle.index.specs.Questions.{refusal}
 use Rattle.index.specs.ChosenAnswer.{answer_of}
 use Rattle.tray_places.specs.declared.samples.Sample.{Sample}
@@ -17,7 +17,7 @@ use Rattle.tray_places.specs.Counts.{one, times, numbered, same}
 use Rattle.tray_places.proofs.Held.{times_none, times_one}
 use Rattle.tray_places.proofs.Found.{empty_size, empty_holds}
 use Rattle.tray_places.proofs.Same.{itself, only}
-use Rattle.tray.specs.Tray.{sample_with, put_answer, take_answer}
+use Rattle.tray.specs.Tray.{sample_with, as_put, put_answer, take_answer}
 use Rattle.tray.specs.State.{state_after, state_of}
 use Rattle.tray.specs.Calls.{Put, Take, Ask, ToPut, ToTake, ToAsk, after, answers_to}
 use Rattle.tray.proofs.Steps.{call_step}
@@ -44,7 +44,7 @@ empty_held : Holds empty_tray []
 empty_held = record { size = empty_size; each = λ test. ap (times test) empty_holds }
 
 record PutInto (tray : List ℕ) (samples : List Sample) (number u y : ℕ) : Type 0 where
-  given : put_answer tray number u y ≡ answer_of u y
+  given : put_answer tray number u y ≡ as_put (answer_of u y)
   then : Holds (after tray (Put number u y)) (sample_with number u y (answer_of u y) ∷ samples)
 
 put_into : (tray : List ℕ) (samples : List Sample) (number u y : ℕ) → Holds tray samples → refusal u y ≡ 0 → times (numbered number) samples ≡ 0
@@ -142,7 +142,7 @@ module _ (m n u y v z : ℕ) (different : m ≡ n → ⊥) (passed : refusal u y
       (λ x p e. by_test (same x t) (only x t) (λ g. absurd (omega (arith, times_one (same x) t, ap one g))))
 
   two_samples : answers_to empty_tray (Put m u y ∷ Put n v z ∷ Take m ∷ Take n ∷ Ask ∷ [])
-      ≡ ToPut (answer_of u y) ∷ ToPut (answer_of v z) ∷ ToTake (Ok s) ∷ ToTake (Ok t) ∷ ToAsk (Ok None) ∷ []
+      ≡ ToPut (as_put (answer_of u y)) ∷ ToPut (as_put (answer_of v z)) ∷ ToTake (Ok s) ∷ ToTake (Ok t) ∷ ToAsk (Ok None) ∷ []
   unfolding answers_to
   two_samples =
       rw (put_first.given, put_second.given, take_first.given, take_second.given, none_held (after (after both_in (Take m)) (Take n)) take_second.then)
@@ -150,7 +150,7 @@ module _ (m n u y v z : ℕ) (different : m ≡ n → ⊥) (passed : refusal u y
 -- ---- one number twice
 
 module _ (n u y v z : ℕ) (passed : refusal u y ≡ 0) (passed' : refusal v z ≡ 0) where
-  held_already : put_answer (after empty_tray (Put n u y)) n v z ≡ answer.Refused 31
+  held_already : put_answer (after empty_tray (Put n u y)) n v z ≡ Err NumberHeld
   held_already =
       let first = put_empty n u y passed in
       let s : Sample = sample_with n u y (answer_of u y) in
@@ -158,7 +158,7 @@ module _ (n u y v z : ℕ) (passed : refusal u y ≡ 0) (passed' : refusal v z �
       (every_call (after empty_tray (Put n u y)) first.then.size).number_held n v z passed'
       (omega (arith, first.then.each (numbered n), times_one (numbered n) s, its))
 
-  one_sample : answers_to empty_tray (Put n u y ∷ Put n v z ∷ []) ≡ ToPut (answer_of u y) ∷ ToPut (answer.Refused 31) ∷ []
+  one_sample : answers_to empty_tray (Put n u y ∷ Put n v z ∷ []) ≡ ToPut (as_put (answer_of u y)) ∷ ToPut (Err NumberHeld) ∷ []
   unfolding answers_to
   one_sample = rw ((put_empty n u y passed).given, held_already)
 

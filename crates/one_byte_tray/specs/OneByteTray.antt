@@ -1,12 +1,13 @@
 -- The tray of change request #102 as it was before #104, kept as what the tray is compared with: "each with a number of one byte", in 64 places of eight numbers.
--- Each definition has the name and the text that it had in tray_places and tray (a constructor may have the name of its type before it, and what a take and the
--- state answer is said in the tray's types), but for `after`, which goes by `one_byte`; new are `one_byte`, `call_answer` and `answers_to`, which run a list of calls. No contract cites them. They share the types of a call and of what it
+-- Each definition has the name and the text that it had in tray_places and tray (a constructor may have the name of its type before it, and what the calls
+-- answer is said in the tray's types), but for `after`, which goes by `one_byte`; new are `one_byte`, `call_answer` and `answers_to`, which run a list of calls. No contract cites them. They share the types of a call and of what it
 -- answers with the tray, for two lists of answers could not be compared otherwise; and what is no part of a tray: the pair's answer and its questions, a
 -- question's form, a summary with one answer more, two's complement, numbers stored in a list.
 use Rattle.std.specs.Prelude.{ℕ, zero, suc, ◌+◌, ◌*◌, ◌%◌, Bool, cond, not, ◌&&◌, List, [], ◌∷◌, ◌++◌, eqb, ltb, length, get_or, replicate, Option, Some, None, Result, Ok, Err}
 use Rattle.laws.specs.Questions.{ask}
 use Rattle.shown_index.specs.declared.Mark.{Mark}
 use Rattle.shown_index.specs.declared.Mark.TheVariants.{Settled, Near}
+use Rattle.index.specs.declared.answer.Index.{Index}
 use Rattle.index.specs.declared.answer.Index.TheVariants as answer
 use Rattle.index.specs.Questions.{refusal}
 use Rattle.index.specs.Answer.{Answer, method_of, index_of, lower_of, upper_of}
@@ -16,7 +17,7 @@ use Rattle.index_summary.specs.declared.Summary.{Summary}
 use Rattle.index_summary.specs.Summary.{alone_of, joined_of}
 use Rattle.tray_places.specs.declared.samples.Sample.{Sample}
 use Rattle.tray.specs.declared.refusal.Refusal.{Refusal}
-use Rattle.tray.specs.Tray.{refusal_of}
+use Rattle.tray.specs.Tray.{refusal_of, as_put}
 use Rattle.tray.specs.Calls.{Call, Put, Take, Ask, CallAnswer, ToPut, ToTake, ToAsk}
 
 -- ---- its layout
@@ -62,7 +63,7 @@ mark_from method = cond (eqb method 2) Settled Near
 
 unfoldable pub answer_from : ℕ → ℕ → ℕ → ℕ → Answer
 answer_from method index lower upper =
-    cond (eqb method 1) (answer.A (signed_of index)) (answer.B (record { index = index; mark = mark_from method; lower = lower; upper = upper }))
+    cond (eqb method 1) (Ok (answer.A (signed_of index))) (Ok (answer.B (record { index = index; mark = mark_from method; lower = lower; upper = upper })))
 
 abbrev pub sample_of : Place → Sample
 sample_of place = record {
@@ -200,8 +201,8 @@ abbrev pub tray_with : List ℕ → Sample → List ℕ
 tray_with tray s = tray_storing tray (place_of s)
 
 -- "Putting in takes a number, u and y and gives the pair's answer"
-unfoldable pub put_answer : List ℕ → ℕ → ℕ → ℕ → Answer
-put_answer tray number u y = cond (eqb (put_refusal tray number u y) 0) (answer_of u y) (answer.Refused (put_refusal tray number u y))
+unfoldable pub put_answer : List ℕ → ℕ → ℕ → ℕ → Result Index Refusal
+put_answer tray number u y = cond (eqb (put_refusal tray number u y) 0) (as_put (answer_of u y)) (Err (refusal_of (put_refusal tray number u y)))
 
 -- "A refused call changes nothing"
 unfoldable pub tray_after_put : List ℕ → ℕ → ℕ → ℕ → List ℕ

@@ -1,10 +1,11 @@
 -- Change request #104: "The tray takes numbers up to 4,294,967,295. Its size remains 64, and every list of calls that used numbers up to 255 gets the answers it
 -- got." The tray beside the one of #102 (OneByteTray.antt), with no program in it.
-use Rattle.std.specs.Prelude.{ℕ, ◌≡◌, Bool, true, ◌&&◌, List, [], ◌∷◌, leb, None, Ok}
-use Rattle.index.specs.declared.answer.Index.TheVariants as answer
+use Rattle.std.specs.Prelude.{ℕ, ◌≡◌, Bool, true, ◌&&◌, List, [], ◌∷◌, leb, None, Ok, Err}
 use Rattle.index.specs.Questions.{refusal}
 use Rattle.index.specs.ChosenAnswer.{answer_of}
 use Rattle.tray_places.specs.Places.{empty_tray}
+use Rattle.tray.specs.declared.refusal.Refusal.TheVariants.{NumberHeld}
+use Rattle.tray.specs.Tray.{as_put}
 use Rattle.tray.specs.Calls.{Call, Put, Take, Ask, ToPut, ToTake, ToAsk, after_all, answers_to}
 use Rattle.one_byte_tray.specs.OneByteTray as one_byte
 
@@ -36,13 +37,13 @@ pub record AnyNumbers : Type 0 where
   -- any two different numbers, whichever bytes they differ in, are two samples: both are put in, and each gives its own pair and answer
   pub two : (m n u y v z : ℕ) → (m ≡ n → ⊥) → refusal u y ≡ 0 → refusal v z ≡ 0
       → answers_to empty_tray (Put m u y ∷ Put n v z ∷ Take m ∷ Take n ∷ Ask ∷ [])
-      ≡ ToPut (answer_of u y) ∷ ToPut (answer_of v z)
+      ≡ ToPut (as_put (answer_of u y)) ∷ ToPut (as_put (answer_of v z))
       ∷ ToTake (Ok (record { number = m; u = u; y = y; answer = answer_of u y }))
       ∷ ToTake (Ok (record { number = n; u = v; y = z; answer = answer_of v z }))
       ∷ ToAsk (Ok None) ∷ []
   -- and a number, whichever it is, is held once
   pub same : (n u y v z : ℕ) → refusal u y ≡ 0 → refusal v z ≡ 0
-      → answers_to empty_tray (Put n u y ∷ Put n v z ∷ []) ≡ ToPut (answer_of u y) ∷ ToPut (answer.Refused 31) ∷ []
+      → answers_to empty_tray (Put n u y ∷ Put n v z ∷ []) ≡ ToPut (as_put (answer_of u y)) ∷ ToPut (Err NumberHeld) ∷ []
   -- which #102's numbers of one byte could not say: 257 was the same number as 1
   pub before : (u y v z : ℕ) → refusal u y ≡ 0 → refusal v z ≡ 0
-      → one_byte.answers_to one_byte.empty_tray (Put 1 u y ∷ Put 257 v z ∷ []) ≡ ToPut (answer_of u y) ∷ ToPut (answer.Refused 31) ∷ []
+      → one_byte.answers_to one_byte.empty_tray (Put 1 u y ∷ Put 257 v z ∷ []) ≡ ToPut (as_put (answer_of u y)) ∷ ToPut (Err NumberHeld) ∷ []

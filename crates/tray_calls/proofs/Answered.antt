@@ -1,23 +1,29 @@
 -- The calls whose lent memories have their sizes, by what the tray's own calls do.
+use Rattle.laws.proofs.Contradiction.{not_some}
+use Rattle.reference.specs.Refusal as of_pair
+use Rattle.reference.proofs.Refusals.{numbered_refusals}
+use Rattle.index.proofs.QuestionOrder.{number_most}
+use Rattle.tray_places.specs.declared.samples.Sample.{Sample}
+use mathlib.Core.Bool.{Bool}
+use Rattle.answer_record.specs.Record.{record_of}
 use Prim.Native.Nat.{ℕ, ◌+◌, ◌<◌}
 use mathlib.Core.Path.{◌≡◌, refl, sym, ap, ◌∙◌, subst}
 use mathlib.Core.List.{List, [], ◌∷◌}
 use native.Mathlib.Omega.{arith}
-use borrow.Author.Tests.{eq-eqb}
 use lib.IntN.{ℤ, pos}
 use lib.ListN.{length}
 use Rattle.std.specs.Prelude.{Option, Some, None, Result, Ok, Err}
 use Rattle.index.specs.Questions.{refusal}
-use Rattle.index.specs.Answer.{number_of}
+use Rattle.index.specs.Answer.{Answer, RightAnswer}
 use Rattle.index.specs.ChosenAnswer.{answer_of}
 use Rattle.index.proofs.Right.{right}
 use Rattle.index_summary.specs.declared.Summary.{Summary}
 use Rattle.tray_places.specs.Places.{held_in}
 use Rattle.tray_places.specs.Counts.{one, times}
 use Rattle.tray.specs.declared.refusal.Refusal.{Refusal}
-use Rattle.tray.specs.Tray.{held_as, put_answer, take_answer, tray_after_take}
+use Rattle.tray.specs.Tray.{held_as, sample_with, as_put, put_answer, take_answer, tray_after_take}
 use Rattle.tray.specs.State.{state_of, RightState}
-use Rattle.tray.specs.Calls.{refused_by}
+use Rattle.tray.specs.Calls.{Put, refused_by, after}
 use Rattle.tray.proofs.Walk.{state_right}
 use Rattle.tray.proofs.EveryList.{every_call}
 use Rattle.tray_calls.specs.TrayCalls.{record_with, put_number, record_put, pair_with, record_from, row_with}
@@ -25,7 +31,7 @@ use Rattle.tray_calls.specs.AnsweredCalls.{PutIn, TakenOut, RightRow, AnsweredCa
 use Rattle.tray_calls.proofs.Calls.{put_done, TakeLeaves, take_done, SummaryLeaves, summary_done}
 
 module _ (tray lent pair : List ℕ) (row : List ℤ) (t : length tray ≡ 512) (h : length lent ≡ 16) (e : length pair ≡ 2) (w : length row ≡ 7) where
-  number_answered : (n u y : ℕ) → put_number tray lent n u y ≡ number_of (put_answer tray n u y)
+  number_answered : (n u y : ℕ) → put_number tray lent n u y ≡ refused_by (put_answer tray n u y)
   number_answered n u y = sym (put_done tray lent n u y (put_answer tray n u y) h refl refl refl refl).0
 
   record_answered : (n u y : ℕ) → record_put tray lent n u y ≡ record_with lent (put_answer tray n u y)
@@ -39,22 +45,31 @@ module _ (tray lent pair : List ℕ) (row : List ℤ) (t : length tray ≡ 512) 
   asked_done = summary_done tray row (state_of tray) w refl refl
 
   in_put : (n u y : ℕ) → refusal u y ≡ 0 → held_as tray n ≡ 0 → length (held_in tray) < 64 → PutIn tray lent n u y
-  in_put n u y z k f =
-      let both = (every_call tray t).put_in n u y z k f in
-      let done = put_done tray lent n u y (put_answer tray n u y) h refl refl refl refl in
-      let none : number_of (answer_of u y) ≡ 0 = (right u y).number ∙ z in
-      record {
-        answered = number_answered n u y ∙ ap number_of both.0 ∙ none;
-        filled = record {
-          of_right = record {
-            answer = answer_of u y;
-            right = right u y;
-            laid_out = record_answered n u y ∙ ap (record_with lent) both.0 ∙ rw (eq-eqb (number_of (answer_of u y)) 0 none);
-          };
-          alone = refl;
-        };
-        more = λ test. ap (λ (m : List ℕ). times test (held_in m)) (sym done.1.0) ∙ both.1 test;
-      }
+  in_put n u y z k f = by_case (answer_of u y) refl
+    where
+      both : (put_answer tray n u y ≡ as_put (answer_of u y))
+          × ((test : Sample → Bool) → times test (held_in (after tray (Put n u y))) ≡ times test (held_in tray) + one (test (sample_with n u y (answer_of u y))))
+      both = (every_call tray t).put_in n u y z k f
+
+      by_case : (a : Answer) → a ≡ answer_of u y → PutIn tray lent n u y
+      by_case (Err q) e =
+          let r : RightAnswer u y (Err q) = subst (RightAnswer u y) (sym e) (right u y) in
+          not_some (of_pair.number_of_refusal q) (r.number ∙ z) r.case
+      by_case (Ok i) e =
+          let done = put_done tray lent n u y (put_answer tray n u y) h refl refl refl refl in
+          let given : put_answer tray n u y ≡ Ok i = both.0 ∙ ap as_put (sym e) in
+          record {
+            answered = number_answered n u y ∙ ap refused_by given;
+            filled = record {
+              of_right = record {
+                answer = answer_of u y;
+                right = right u y;
+                laid_out = record_answered n u y ∙ ap (record_with lent) given ∙ ap record_of e;
+              };
+              alone = refl;
+            };
+            more = λ test. ap (λ (m : List ℕ). times test (held_in m)) (sym done.1.0) ∙ both.1 test;
+          }
 
   out_taken : (n : ℕ) → 0 < held_as tray n → TakenOut tray pair lent n
   out_taken n p =
@@ -85,9 +100,10 @@ module _ (tray lent pair : List ℕ) (row : List ℤ) (t : length tray ≡ 512) 
 
   pub answered_calls : AnsweredCalls tray lent pair row t h e w
   answered_calls = record {
-    pair_first = λ n u y p. number_answered n u y ∙ ap number_of ((every_call tray t).pair_first n u y p);
-    number_held = λ n u y z p. number_answered n u y ∙ ap number_of ((every_call tray t).number_held n u y z p);
-    tray_full = λ n u y z k f. number_answered n u y ∙ ap number_of ((every_call tray t).tray_full n u y z k f);
+    pair_first = λ n u y p.
+        number_answered n u y ∙ ap refused_by ((every_call tray t).pair_first n u y p) ∙ numbered_refusals.of_number (refusal u y) p (number_most u y);
+    number_held = λ n u y z p. number_answered n u y ∙ ap refused_by ((every_call tray t).number_held n u y z p);
+    tray_full = λ n u y z k f. number_answered n u y ∙ ap refused_by ((every_call tray t).tray_full n u y z k f);
     put_in = in_put;
     not_held = λ n z.
         sym (taken_done n).0 ∙ ap refused_by ((every_call tray t).not_held n z);

@@ -1,6 +1,9 @@
 -- What the calls answer and leave, by the sizes of what is lent and by what the tray answers.
+use Rattle.laws.proofs.Contradiction.{not_some}
+use Rattle.reference.specs.Refusal as pair
+use Rattle.tray.specs.declared.refusal.Refusal.TheVariants.{NotATray, Pair}
 use Prim.Native.Nat.{ℕ, ◌<◌}
-use mathlib.Core.Path.{◌≡◌, refl, sym, ap, ◌∙◌}
+use mathlib.Core.Path.{◌≡◌, refl, sym, ap, ◌∙◌, subst}
 use mathlib.Core.List.{List}
 use native.Mathlib.Omega.{arith}
 use borrow.Author.Tests.{eq-eqb, ne_eqb}
@@ -11,8 +14,8 @@ use mir.Facts.{to_z_pos}
 use mir.Syntax.{w32, w64}
 use mir.Val.{to_z, of_z, SFits}
 use Rattle.laws.specs.Bits.{span32}
-use Rattle.index.specs.declared.answer.Index.TheVariants as answer
-use Rattle.index.specs.Answer.{Answer, number_of, method_of, index_of, lower_of, upper_of}
+use Rattle.index.specs.declared.answer.Index.{Index}
+use Rattle.index.specs.Answer.{Answer, number_of, method_of, index_of, lower_of, upper_of, RightAnswer}
 use Rattle.index.specs.ChosenAnswer.{answer_of}
 use Rattle.index.proofs.Fits.{fits}
 use Rattle.index.proofs.Right.{right}
@@ -28,7 +31,7 @@ use Rattle.tray_places.specs.Samples.{place_of}
 use Rattle.tray_places.specs.Places.{tray_size}
 use Rattle.tray.specs.declared.refusal.Refusal.{Refusal}
 use Rattle.tray.specs.Tray.{number_of_refusal, hold_answer, sample_with, tray_holding, put_answer, tray_after_put, take_answer, tray_after_take}
-use Rattle.tray.proofs.Questions.{hold_some, put_5, put_pair, put_refused, put_held}
+use Rattle.tray.proofs.Questions.{put_5, put_pair, put_refused, put_held}
 use Rattle.tray.specs.State.{state_of}
 use Rattle.tray.specs.Calls.{refused_by}
 use Rattle.tray_calls.specs.TrayCalls.{not_its_size, record_with, place_from, put_number, tray_put, record_put, pair_size, pair_with, record_from, take_number, tray_taken, pair_taken, record_taken, row_size, row_of, held_of, summary_row, row_with, summary_number, summary_after}
@@ -62,11 +65,11 @@ module _ (tray lent : List ℕ) (n u y : ℕ) where
   unfolding put_number tray_put record_put
   put_other h = (simp (ne_eqb _ _ h), (simp (ne_eqb _ _ h), simp (ne_eqb _ _ h)))
 
-  pub put_done : (a : Answer) {number : ℕ} {after recorded : List ℕ} → length lent ≡ result_size → a ≡ put_answer tray n u y
-      → after ≡ tray_after_put tray n u y → number ≡ number_of a → recorded ≡ record_with lent a → PutLeaves number after recorded
+  pub put_done : (a : Result Index Refusal) {number : ℕ} {after recorded : List ℕ} → length lent ≡ result_size → a ≡ put_answer tray n u y
+      → after ≡ tray_after_put tray n u y → number ≡ refused_by a → recorded ≡ record_with lent a → PutLeaves number after recorded
   unfolding put_number tray_put record_put
   put_done a h e f m g =
-      (simp (eq-eqb _ _ h) (m ∙ ap number_of e), (simp (eq-eqb _ _ h) f, simp (eq-eqb _ _ h) (g ∙ ap (record_with lent) e)))
+      (simp (eq-eqb _ _ h) (m ∙ ap refused_by e), (simp (eq-eqb _ _ h) f, simp (eq-eqb _ _ h) (g ∙ ap (record_with lent) e)))
 
 -- of a pair whose answer stands in a record
 module _ (tray lent : List ℕ) (n u y : ℕ) {filled : List ℕ} (Filled-is : filled ≡ record_of (answer_of u y)) where
@@ -91,30 +94,42 @@ module _ (tray lent : List ℕ) (n u y : ℕ) {filled : List ℕ} (Filled-is : f
   pub put_no_tray : length lent ≡ result_size → (length tray ≡ tray_size → ⊥) → PutLeaves tray lent n u y not_its_size tray lent
   put_no_tray h t =
       let by = put_5 tray n u y t in
-      put_done tray lent n u y (answer.Refused 5) h by.0 by.1 refl refl
+      put_done tray lent n u y (Err NotATray) h by.0 by.1 refl refl
 
   module _ (h : length lent ≡ result_size) (t : length tray ≡ tray_size) where
     pub put_by_pair : (get_or filled 0 0 ≡ 0 → ⊥) → PutLeaves tray lent n u y (get_or filled 0 0) tray lent
-    put_by_pair z =
-        let some : number_of (answer_of u y) ≡ 0 → ⊥ = λ e. z (number_there ∙ e) in
-        let by = put_pair tray n u y t refl (right u y) some in
-        put_done tray lent n u y (answer_of u y) h by.0 by.1 number_there (sym (rw (ne_eqb (number_of (answer_of u y)) 0 some)))
+    put_by_pair z = by_case (answer_of u y) refl
+      where
+        by_case : (a : Answer) → a ≡ answer_of u y → PutLeaves tray lent n u y (get_or filled 0 0) tray lent
+        by_case (Err q) e =
+            let by = put_pair tray n u y t e (subst (RightAnswer u y) (sym e) (right u y)) in
+            put_done tray lent n u y (Err (Pair q)) h by.0 by.1 (number_there ∙ ap number_of (sym e)) refl
+        by_case (Ok i) e = absurd (z (number_there ∙ ap number_of (sym e)))
 
     module _ {p : Place} {m : List ℕ} (z : get_or filled 0 0 ≡ 0) (p-is : p ≡ place_from filled n u y) (m-is : m ≡ tray_holding tray n 0 p) where
-      passed : number_of (answer_of u y) ≡ 0
-      passed = sym number_there ∙ z
+      -- the pair has an index
+      by_index : {P : Type 0} → ((i : Index) → Ok i ≡ answer_of u y → RightAnswer u y (Ok i) → p ≡ place_of (sample_with n u y (Ok i)) → P) → P
+      by_index {P} f = by_case (answer_of u y) refl
+        where
+          by_case : (a : Answer) → a ≡ answer_of u y → P
+          by_case (Err q) e =
+              let r : RightAnswer u y (Err q) = subst (RightAnswer u y) (sym e) (right u y) in
+              not_some (pair.number_of_refusal q) (ap number_of e ∙ sym number_there ∙ z) r.case
+          by_case (Ok i) e =
+              f i e (subst (RightAnswer u y) (sym e) (right u y))
+              (place_there p-is ∙ ap (λ (a : Answer). place_of (sample_with n u y a)) (sym e))
 
       pub put_not_held : {r : Refusal} → Err r ≡ hold_answer tray n → PutLeaves tray lent n u y (number_of_refusal r) m lent
       put_not_held {r} e =
-          let by = put_refused tray n u y t refl (right u y) passed (place_there p-is) m-is e in
-          let some : 0 < number_of_refusal r = hold_some tray n e in
-          put_done tray lent n u y (answer.Refused (number_of_refusal r)) h by.0 by.1 refl
-          (sym (rw (ne_eqb (number_of_refusal r) 0 (λ (q : number_of_refusal r ≡ 0). omega arith))))
+          by_index (λ i is right p.
+          let by = put_refused tray n u y t is right p m-is e in
+          put_done tray lent n u y (Err r) h by.0 by.1 refl refl)
 
       pub put_in : {after : List ℕ} → Ok tt ≡ hold_answer tray n → after ≡ filled → PutLeaves tray lent n u y 0 m after
       put_in {after} e f =
-          let by = put_held tray n u y t refl (right u y) passed (place_there p-is) m-is e in
-          put_done tray lent n u y (answer_of u y) h by.0 by.1 (sym passed) (f ∙ Filled-is ∙ sym (rw (eq-eqb (number_of (answer_of u y)) 0 passed)))
+          by_index (λ i is right p.
+          let by = put_held tray n u y t is right p m-is e in
+          put_done tray lent n u y (Ok i) h by.0 by.1 refl (f ∙ Filled-is ∙ ap record_of (sym is)))
 
 -- ---- taking out
 

@@ -1,15 +1,15 @@
 -- A refused call leaves every lent memory; a memory of another size is refused by 5; a summary begins with how many are held.
+use Rattle.index.specs.declared.answer.Index.{Index}
 use Prim.Native.Nat.{ℕ, ◌<◌}
 use mathlib.Core.Path.{◌≡◌, refl, sym, ap, ◌∙◌}
 use mathlib.Core.List.{List, [], map}
 use native.Mathlib.Omega.{arith}
-use borrow.Author.Tests.{ne_eqb, eqb-true, eqb-false}
+use borrow.Author.Tests.{eqb-true, eqb-false}
 use lib.Dec.{eqb}
 use lib.IntN.{ℤ, pos}
 use lib.ListN.{length}
 use Rattle.std.specs.Prelude.{Option, Some, None, Result, Ok, Err}
 use Rattle.laws.proofs.Order.{by_test}
-use Rattle.index.specs.Answer.{Answer, number_of}
 use Rattle.answer_record.specs.Record.{result_size}
 use Rattle.index_summary.specs.declared.Summary.{Summary}
 use Rattle.index_summary.specs.Summary.{SummaryOf}
@@ -31,7 +31,7 @@ by_equal a b f g = by_test (eqb a b) (λ e. f (eqb-true a b e)) (λ e. g (eqb-fa
 
 -- ---- the tray itself
 
-put_left : (tray : List ℕ) (n u y : ℕ) → 0 < number_of (put_answer tray n u y) → tray_after_put tray n u y ≡ tray
+put_left : (tray : List ℕ) (n u y : ℕ) → 0 < refused_by (put_answer tray n u y) → tray_after_put tray n u y ≡ tray
 put_left tray n u y p =
     by_equal (length tray) tray_size (λ h. (every_call tray h).unchanged (Put n u y) p) (λ h. sym (put_5 tray n u y h).1)
 
@@ -41,8 +41,9 @@ take_left tray n p =
 
 -- ---- the memories beside it
 
-record_left : (lent : List ℕ) (a : Answer) → 0 < number_of a → record_with lent a ≡ lent
-record_left lent a p = rw (ne_eqb (number_of a) 0 (λ (z : number_of a ≡ 0). omega arith))
+record_left : (lent : List ℕ) (a : Result Index Refusal) → 0 < refused_by a → record_with lent a ≡ lent
+record_left lent (Err k) p = refl
+record_left lent (Ok index) p = absurd (omega arith)
 
 pair_left : (pair : List ℕ) (t : Result Sample Refusal) → 0 < refused_by t → pair_with pair t ≡ pair
 pair_left pair (Err k) p = refl
@@ -84,7 +85,7 @@ module _ (tray lent pair : List ℕ) (row : List ℤ) where
       by_equal (length lent) result_size
       (λ h.
       let done = put_done tray lent n u y (put_answer tray n u y) h refl refl refl refl in
-      let refused : 0 < number_of (put_answer tray n u y) = omega (arith, done.0) in
+      let refused : 0 < refused_by (put_answer tray n u y) = omega (arith, done.0) in
       (sym done.1.0 ∙ put_left tray n u y refused, sym done.1.1 ∙ record_left lent (put_answer tray n u y) refused))
       (λ h. let other = put_other tray lent n u y h in (sym other.1.0, sym other.1.1))
 
@@ -121,7 +122,7 @@ module _ (tray lent pair : List ℕ) (row : List ℤ) where
   other_sizes = record {
     put_tray = λ h n u y.
         by_equal (length lent) result_size
-        (λ e. sym (put_done tray lent n u y (put_answer tray n u y) e refl refl refl refl).0 ∙ ap number_of (sym (put_5 tray n u y h).0))
+        (λ e. sym (put_done tray lent n u y (put_answer tray n u y) e refl refl refl refl).0 ∙ ap refused_by (sym (put_5 tray n u y h).0))
         (λ e. sym (put_other tray lent n u y e).0);
     put_record = λ h n u y. sym (put_other tray lent n u y h).0;
     take_tray = λ h n.

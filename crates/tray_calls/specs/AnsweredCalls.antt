@@ -2,7 +2,6 @@
 -- Numbers, places in a row and fields are written out here, so that a slip in TrayCalls.antt is refuted.
 use Rattle.std.specs.Prelude.{ℕ, ◌+◌, ◌<◌, ◌≡◌, Bool, List, [], ◌∷◌, ℤ, pos, length}
 use Rattle.index.specs.Questions.{refusal}
-use Rattle.index.specs.Answer.{number_of}
 use Rattle.index.specs.ChosenAnswer.{answer_of}
 use Rattle.answer_record.specs.Record.{record_of, RecordOfPair}
 use Rattle.index_summary.specs.declared.Summary.{Summary}
@@ -57,7 +56,7 @@ pub record AnsweredCalls (tray lent pair : List ℕ) (row : List ℤ)
   -- and what is answered and filled in is made of those calls' own answers, and where they refuse of what was lent, so that calls which get the same answers
   -- (one_byte_tray, SameAnswers.antt) get the same numbers and bytes in C
   pub told_put : (number u y : ℕ)
-      → (put_number tray lent number u y ≡ number_of (put_answer tray number u y)) × (record_put tray lent number u y ≡ record_with lent (put_answer tray number u y))
+      → (put_number tray lent number u y ≡ refused_by (put_answer tray number u y)) × (record_put tray lent number u y ≡ record_with lent (put_answer tray number u y))
   pub told_taken : (number : ℕ) → (take_number tray pair lent number ≡ refused_by (take_answer tray number))
       × (pair_taken tray pair lent number ≡ pair_with pair (take_answer tray number)) × (record_taken tray pair lent number ≡ record_from lent (take_answer tray number))
   pub told_asked : (summary_number tray row ≡ refused_by (state_of tray)) × (summary_after tray row ≡ row_with row (state_of tray))

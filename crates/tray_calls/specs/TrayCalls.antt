@@ -2,7 +2,7 @@
 -- tray's own questions, of which the first no gives its number, with all lent memory untouched; otherwise what was asked for is filled in, and 0 is answered.
 use Rattle.std.specs.Prelude.{ℕ, ◌+◌, Bool, cond, ◌&&◌, List, [], ◌∷◌, eqb, ℤ, pos, length, get_or, Option, Some, None, Result, Ok, Err}
 use Rattle.laws.specs.Questions.{ask}
-use Rattle.index.specs.Answer.{Answer, number_of}
+use Rattle.index.specs.declared.answer.Index.{Index}
 use Rattle.answer_record.specs.Bytes.{number_at}
 use Rattle.answer_record.specs.Record.{result_size, method_offset, index_offset, lower_offset, upper_offset, record_of}
 use Rattle.index_summary.specs.declared.Summary.{Summary}
@@ -23,12 +23,13 @@ abbrev pub just16 : List ℕ → Bool
 just16 lent = eqb (length lent) result_size
 
 -- the record after an answer: untouched where the put is refused
-abbrev pub record_with : List ℕ → Answer → List ℕ
-record_with lent a = cond (eqb (number_of a) 0) (record_of a) lent
+abbrev pub record_with : List ℕ → Result Index Refusal → List ℕ
+record_with lent (Err refusal) = lent
+record_with lent (Ok index) = record_of (Ok index)
 
 -- the number that is answered, the tray and the record afterwards
 unfoldable pub put_number : List ℕ → List ℕ → ℕ → ℕ → ℕ → ℕ
-put_number tray lent number u y = ask (just16 lent) not_its_size (number_of (put_answer tray number u y))
+put_number tray lent number u y = ask (just16 lent) not_its_size (refused_by (put_answer tray number u y))
 
 unfoldable pub tray_put : List ℕ → List ℕ → ℕ → ℕ → ℕ → List ℕ
 tray_put tray lent number u y = cond (just16 lent) (tray_after_put tray number u y) tray

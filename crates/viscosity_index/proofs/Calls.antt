@@ -6,7 +6,8 @@ use lib.ListN.{length}
 use Rattle.index.specs.Answer.{Answer, number_of, RightAnswer}
 use Rattle.index.specs.ChosenAnswer.{answer_of}
 use Rattle.answer_record.specs.Record.{result_size, record_of}
-use Rattle.sheet.specs.declared.SheetAnswer.{SheetAnswer}
+use Rattle.std.specs.Prelude.{Result}
+use Rattle.sheet.specs.declared.refusal.Refusal.{Refusal}
 use Rattle.sheet.specs.Sheet.{sheet_refusal, sheet_answer_of, sheet_number_of}
 use Rattle.sheet.proofs.Worked.{number_of_answer}
 use Rattle.viscosity_index.specs.PairCall.{not_a_record, pair_number, record_after, PairCall, NoRecord}
@@ -28,6 +29,6 @@ filled u y number lent after {a} h alone right bytes same = record {
 }
 
 -- the number of the answer to a sheet
-pub sheet_number : (before : List ℕ) {number : ℕ} {a : SheetAnswer} → number ≡ sheet_number_of a → a ≡ sheet_answer_of before
+pub sheet_number : (before : List ℕ) {number : ℕ} {a : Result ℕ Refusal} → number ≡ sheet_number_of a → a ≡ sheet_answer_of before
     → number ≡ sheet_refusal before
 sheet_number before e f = e ∙ ap sheet_number_of f ∙ number_of_answer before

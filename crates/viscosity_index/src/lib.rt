@@ -1,5 +1,5 @@
 // What C calls: the pair and the sheet operation on numbers and bytes, the viscosity-gravity constant on numbers, and the tray on lent memories. The header
-// is include/viscosity_index.h.
+// is include/viscosity_index.h. C reads what is answered: a refusal is its number here.
 #![tactic(auto)]
 
 ghost use Rattle.std.specs.Prelude.{◌≡◌};
@@ -13,18 +13,18 @@ ghost use Rattle.viscosity_index.specs.PairCall.{pair_number, record_after, Pair
 use answer_record::layout::RESULT_SIZE;
 use gravity_constant::Temperature;
 use index::answer::number_of;
-use sheet::SheetAnswer;
+use sheet::Refusal;
 
 // What the pair call answers where the lent record is not 16 bytes.
 const NOT_A_RECORD: u32 = 5;
 
 // The number of an answer to a sheet, 0 if it is accepted.
-fn number_of_sheet(answer: SheetAnswer) -> u32
+fn number_of_sheet(answer: Result<u32, Refusal>) -> u32
     ensures { result ≡ sheet_number_of answer }
 {
     match answer {
-        SheetAnswer::Refused(number) => number as u32,
-        SheetAnswer::Accepted(_) => 0,
+        Err(refusal) => u32::from(u8::from(refusal)),
+        Ok(_) => 0,
     }
 }
 
@@ -40,7 +40,7 @@ pub extern "C" fn vi_pair(u: u32, y: u32, record: &mut [u8]) -> u32
     }
     let answer = index::answer_pair(u, y);
     answer_record::write_result(record, 0, answer);
-    number_of(answer) as u32
+    u32::from(number_of(answer))
 }
 
 // Works a sheet. The count of its pairs stands in its header, so the number is all that is answered.

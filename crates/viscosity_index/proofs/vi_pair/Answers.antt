@@ -19,7 +19,7 @@ unfolding pair_number record_after
 returns c =
     let just16 = c.if-record-ne-RESULT_SIZE.false in
     let answered = c.answer_pair-answer.ensures in
-    let number = c.number_of.ensures in
+    let number = c.from.ensures ∙ c.number_of.ensures in
     let bytes = whole _ _ c.answer_pair-answer.result just16 c.write_result.ensures in
     record {
       number = simp (eq-eqb _ _ just16) (number ∙ ap number_of answered.value);
