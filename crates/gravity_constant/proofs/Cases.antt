@@ -1,18 +1,15 @@
 -- The answer and what the questions say, case by case.
-use Prim.Native.Nat.{ℕ, ◌+◌, ◌*◌}
+use Prim.Native.Nat.{ℕ, ◌+◌}
 use mathlib.Core.Path.{◌≡◌, refl, sym, ap, ◌∙◌, subst}
-use mathlib.Core.Bool.{true, false}
-use lib.IntN.{ℤ, sub_ℕ}
+use mathlib.Core.Bool.{true}
 use Rattle.laws.proofs.Contradiction.{impossible}
-use Rattle.logarithm.specs.Fractions.{Q_number}
 use Rattle.std.specs.Prelude.{Result, Ok, Err}
 use Rattle.gravity_constant.specs.declared.questions.Refusal.{Refusal}
 use Rattle.gravity_constant.specs.declared.questions.Refusal.TheVariants.{ViscosityOutside, DensityOutside, DivisorNotAboveZero}
 use Rattle.gravity_constant.specs.declared.questions.Temperature.{Temperature}
 use Rattle.gravity_constant.specs.declared.questions.Oil.{Oil}
-use Rattle.gravity_constant.specs.declared.answer.Constant.{Constant}
 use Rattle.gravity_constant.specs.Questions.{refusal, number_of_refusal, oil_of, asked_of}
-use Rattle.gravity_constant.specs.Chosen.{apart, shift, thousandths, lower_of, count_at, constant_at, divides_at, answer_at, answer_of}
+use Rattle.gravity_constant.specs.Chosen.{apart, lower_of, constant_at, divides_at, answer_at, answer_of}
 use Rattle.gravity_constant.specs.Preconditions.{Passes}
 use Rattle.gravity_constant.proofs.QuestionOrder.{by_questions, none_refuses}
 
@@ -28,27 +25,12 @@ pub answer_passed : (t : Temperature) (v d : ℕ) → Passes t v d → answer_of
 unfolding answer_of
 answer_passed t v d a = rw (none_refuses t v d a) refl
 
--- the three numbers with sign, as the code finds them
-pub constant_is : (t : Temperature) (d n count : ℕ) (k lower upper : ℤ) → count ≡ count_at t d n → k ≡ sub_ℕ count thousandths
-    → lower ≡ sub_ℕ n (shift * Q_number) → upper ≡ sub_ℕ (n + apart) (shift * Q_number)
-    → ◌≡◌ {A = Constant} (record { thousandths = k; lower = lower; upper = upper }) (constant_at t d n)
-unfolding constant_at
-constant_is t d n count k lower upper c e f g = rw (e, f, g, c) refl
-
 -- ---- question 23
 
 module _ (t : Temperature) (d n : ℕ) where
   pub found : divides_at t n ≡ true → divides_at t (n + apart) ≡ true → answer_at t d n ≡ Ok (constant_at t d n)
   unfolding answer_at
   found a b = rw (a, b) refl
-
-  pub no_divisor_lower : divides_at t n ≡ false → answer_at t d n ≡ Err DivisorNotAboveZero
-  unfolding answer_at
-  no_divisor_lower a = rw a refl
-
-  pub no_divisor_upper : divides_at t n ≡ true → divides_at t (n + apart) ≡ false → answer_at t d n ≡ Err DivisorNotAboveZero
-  unfolding answer_at
-  no_divisor_upper a b = rw (a, b) refl
 
 -- ---- what the questions say
 

@@ -1,11 +1,10 @@
 -- k, which the program finds counted from −1000 thousandths, fits the formula at both fractions. N is the dividend and the divisor together, D the
 -- divisor.
 use Prim.Native.Nat.{ℕ, ◌+◌, ◌*◌, ◌-◌, ◌≤◌, ◌<◌}
-use mathlib.Core.Path.{◌≡◌, sym, ap₂, ◌∙◌, subst, subst₂}
+use mathlib.Core.Path.{◌≡◌, subst₂}
 use native.Mathlib.Omega.{arith}
 use native.Mathlib.Nat.{div-mul-le_self, lt-div-mul-add, div-lt_iff_lt-mul, mul-add, mul-le-mul_right}
 use lib.IntN.{sub_ℕ}
-use Rattle.laws.specs.Bits.{half32}
 use Rattle.laws.proofs.Powers.{ring}
 use Rattle.logarithm.specs.Fractions.{Q_number}
 use Rattle.gravity_constant.specs.declared.questions.Temperature.{Temperature}
@@ -43,7 +42,7 @@ close_there : (K N D s r : ℕ) → Rounded K (N + s) (D + r) → 100000 * s + 5
 close_there K N D s r h a b = record { least = omega (arith, simp ring at h.least); most = omega (arith, simp ring at h.most) }
 
 -- fewer than 20,000 counts
-few_counts : (N D : ℕ) → N ≤ most_top * Q_number → least_divisor * Q_number ≤ D → nearest_thousandth N D < most_count
+pub few_counts : (N D : ℕ) → N ≤ most_top * Q_number → least_divisor * Q_number ≤ D → nearest_thousandth N D < most_count
 few_counts N D small large = (div-lt_iff_lt-mul {k = 2 * D} (omega arith)).1 (omega arith)
 
 -- ---- at each temperature
@@ -110,18 +109,3 @@ fits_upper t d n o p =
     (subst₂ (Rounded (count_at t d n)) (further _ _ n p.sum_above) (further _ _ n (omega (arith, p.divisor_above))) (here t d n o))
     (omega (arith, o.slopes_few, divisor_least t d (n + apart) p))
     (omega (arith, few_times (count_at t d n) r (few t d n o) (omega (arith, o.slopes_few)), divisor_least t d (n + apart) p)))
-
--- ---- for the code
-
-same_count : (t : Temperature) (d n N D : ℕ) → N ≡ sum_at t d n → D ≡ divisor_at t n → nearest_thousandth N D ≡ count_at t d n
-unfolding count_at
-same_count t d n N D e f = ap₂ nearest_thousandth e f
-
-pub counted : (t : Temperature) (d n N D K : ℕ) → K ≡ nearest_thousandth N D → N ≡ sum_at t d n → D ≡ divisor_at t n → N ≤ most_top * Q_number
-    → least_divisor * Q_number ≤ D → (K ≡ count_at t d n) × (K < most_count)
-counted t d n N D K k e f small large =
-    (k ∙ same_count t d n N D e f, subst (λ (m : ℕ). m < most_count) (sym k) (few_counts N D small large))
-
-pub small_n : (t : Temperature) (n : ℕ) → n ≤ most_upper t → n < half32
-small_n At40 n h = omega arith
-small_n At100 n h = omega arith

@@ -17,6 +17,7 @@ pub struct Constant {
 }
 
 // The constant of a density, from the lower n: with signs.
+#[tactic(auto, unfolding(crate::specs::Chosen::constant_at))]
 fn constant_at(fractions: Fractions, density: Density) -> Constant
     ensures { result ≡ constant_at fractions.temperature density fractions.n }
 {
@@ -29,6 +30,7 @@ fn constant_at(fractions: Fractions, density: Density) -> Constant
 }
 
 // The answer from the lower n: question 23, of both fractions, then the constant.
+#[tactic(auto, unfolding(crate::specs::Chosen::answer_at))]
 fn answer_at(fractions: Fractions, density: Density) -> Result<Constant, Refusal>
     ensures { result ≡ answer_at fractions.temperature density fractions.n }
 {

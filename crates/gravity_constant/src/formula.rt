@@ -125,6 +125,7 @@ impl Fraction {
     }
 
     // The constant to the nearest thousandth, counted from −1000 thousandths.
+    #[tactic(auto, using(crate::proofs::Fits::few_counts), unfolding(crate::specs::Chosen::count_at))]
     pub fn count(self, density: Density) -> u64
         ensures { (result ≡ count_at self.temperature density self.n) × (result < most_count) }
     {

@@ -25,6 +25,7 @@ pub struct Fractions {
 }
 
 // From the logarithm to the base 2 to the lower n: rounded down, with log2(10) rounded up.
+#[tactic(auto, unfolding(crate::specs::Chosen::lower_from))]
 fn lower_from(l: u64) -> u64
     requires { l ≤ most_digits * (log10 + 1) }
     ensures { result ≡ lower_from l }
@@ -33,6 +34,7 @@ fn lower_from(l: u64) -> u64
 }
 
 impl Fractions {
+    #[tactic(auto, unfolding(crate::specs::Chosen::lower_of))]
     pub fn new(viscosity: Viscosity) -> Self
         ensures { (result.temperature ≡ viscosity.temperature) × (result.n ≡ lower_of viscosity.temperature viscosity.thousandths) }
     {

@@ -1,10 +1,9 @@
--- The logarithm and the lower n are those of the definition (proofs/Enclosure.antt).
+-- The logarithm and the lower n are within what the code asks for (proofs/Enclosure.antt).
 use Prim.Native.Nat.{ℕ, ◌≤◌, ◌+◌}
-use mathlib.Core.Path.{sym, ap, subst₂, ◌∙◌}
-use Rattle.logarithm.specs.Log2.{log2_of}
+use mathlib.Core.Path.{sym, ap, subst₂}
 use Rattle.gravity_constant.specs.Viscosity.{KinematicViscosity}
 use Rattle.gravity_constant.specs.declared.questions.Temperature.{Temperature}
-use Rattle.gravity_constant.specs.Chosen.{apart, most_upper, lower_from, lower_of}
+use Rattle.gravity_constant.specs.Chosen.{apart, most_upper}
 use Rattle.gravity_constant.proofs.Enclosure.{limits}
 use Rattle.gravity_constant.proofs.fractions.Fractions.new.Goals as goal
 
@@ -19,10 +18,3 @@ invariant_of-result c =
           subst₂ (λ (n : ℕ) (t : Temperature). n + apart ≤ most_upper t) (sym c.lower_from.ensures) (sym same)
           (limits c.args.viscosity.temperature _ _ c.argument.ensures.2 c.log2_scaled.ensures).1;
     }
-
-pub returns : goal.returns
-unfolding lower_of
-returns c = (
-  ap (λ (v : KinematicViscosity). v.temperature) c.viscosity.view_is,
-  c.lower_from.ensures ∙ ap lower_from (c.log2_scaled.ensures.value ∙ ap log2_of c.argument.ensures.0),
-)
