@@ -72,7 +72,8 @@ impl Viscosity {
         ensures least100 { Viscosity.LEAST_AT_100 ≡ least_viscosity At100 }
         ensures greatest100 { Viscosity.GREATEST_AT_100 ≡ greatest_viscosity At100 }
     {
-        if v < least_viscosity(temperature) || greatest_viscosity(temperature) < v {
+        let limits = temperature.limits();
+        if v < limits.least || limits.greatest < v {
             return Err(Refusal::ViscosityOutside);
         }
         Ok(Viscosity {
@@ -82,21 +83,22 @@ impl Viscosity {
     }
 }
 
-fn least_viscosity(t: Temperature) -> u32
-    ensures { result ≡ least_viscosity t }
-{
-    match t {
-        Temperature::At40 => Viscosity::LEAST_AT_40,
-        Temperature::At100 => Viscosity::LEAST_AT_100,
-    }
+// Between which numbers the viscosity at a temperature lies.
+#[derive(Clone, Copy)]
+struct Limits {
+    least: u32,
+    greatest: u32,
 }
 
-fn greatest_viscosity(t: Temperature) -> u32
-    ensures { result ≡ greatest_viscosity t }
-{
-    match t {
-        Temperature::At40 => Viscosity::GREATEST_AT_40,
-        Temperature::At100 => Viscosity::GREATEST_AT_100,
+impl Temperature {
+    fn limits(self) -> Limits
+        ensures { (result.least ≡ least_viscosity self) × (result.greatest ≡ greatest_viscosity self) }
+    {
+        let (least, greatest) = match self {
+            Temperature::At40 => (Viscosity::LEAST_AT_40, Viscosity::GREATEST_AT_40),
+            Temperature::At100 => (Viscosity::LEAST_AT_100, Viscosity::GREATEST_AT_100),
+        };
+        Limits { least, greatest }
     }
 }
 
