@@ -23,28 +23,39 @@ fn c_of(r: u64) -> u64
     C_AT_100 + C_PER_HUNDREDTH * r - C_PER_HUNDREDTH * (100 * LEAST_INDEX)
 }
 
-// The logarithm of c(r), for an r at which the code looks.
-pub fn log_c(r: u64) -> u64
-    requires { (100 * least_index + 50 ≤ r) × (r ≤ 100 * most_index + 50) }
-    ensures { (result ≡ log2_of (c r)) × LogOfC result }
-{
-    logarithm::log2_scaled(c_of(r))
+// The logarithm of a c(r). 10^7 is taken off it where it is compared, so that the products fit 64 bits.
+#[derive(Clone, Copy, Debug)]
+pub struct LogC {
+    pub log: u64,
+    ghost range: { LogOfC log },
 }
 
-// Do the logarithms show that p shows "at least r"? lc is the logarithm of c(r); 10^7 is taken off it, so that the products fit 64 bits.
-pub fn shows_least(lc: u64, p: u64) -> bool
-    requires { LogOfC lc × (p ≤ most_lower) }
-    ensures { result ≡ leb ((lc + width) * Q_number) (log10 * p + log10000000 * Q_number) }
-{
-    (lc + WIDTH - LOG_10_7) * Q <= LOG_10 * p
-}
+impl LogC {
+    // Of c at an r at which the code looks.
+    pub fn of(r: u64) -> LogC
+        requires { (100 * least_index + 50 ≤ r) × (r ≤ 100 * most_index + 50) }
+        ensures { result.log ≡ log2_of (c r) }
+    {
+        LogC {
+            log: logarithm::log2_scaled(c_of(r)),
+        }
+    }
 
-// Do the logarithms show that P shows "at most r"?
-pub fn shows_most(lc: u64, upper: u64) -> bool
-    requires { LogOfC lc × (upper ≤ most_upper) }
-    ensures { result ≡ leb ((log10 + 1) * upper + (log10000000 + 1) * Q_number) (lc * Q_number) }
-{
-    (LOG_10 + 1) * upper <= (lc - (LOG_10_7 + 1)) * Q
+    // Do the logarithms show that p shows "at least r"?
+    pub fn shows_least(self, p: u64) -> bool
+        requires { p ≤ most_lower }
+        ensures { result ≡ leb ((self.log + width) * Q_number) (log10 * p + log10000000 * Q_number) }
+    {
+        (self.log + WIDTH - LOG_10_7) * Q <= LOG_10 * p
+    }
+
+    // Do the logarithms show that P shows "at most r"?
+    pub fn shows_most(self, upper: u64) -> bool
+        requires { upper ≤ most_upper }
+        ensures { result ≡ leb ((log10 + 1) * upper + (log10000000 + 1) * Q_number) (self.log * Q_number) }
+    {
+        (LOG_10 + 1) * upper <= (self.log - (LOG_10_7 + 1)) * Q
+    }
 }
 
 // Is at least k − 0.5 shown? Of 100 it always is: c is below 10^7 there.
@@ -55,5 +66,5 @@ pub fn shown_below(k: u64, p: u64) -> bool
     if k <= LEAST_INDEX {
         return true;
     }
-    shows_least(log_c(100 * k - 50), p)
+    LogC::of(100 * k - 50).shows_least(p)
 }

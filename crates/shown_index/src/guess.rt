@@ -29,7 +29,8 @@ fn power_of_two(f: u64) -> u64
     multiply_add(4_294_983_206, linear, f)
 }
 
-// A number from the least index to one below the greatest.
+// A number from the least index to one below the greatest. k stays a number here and in `search`: it is reckoned with at each use (100 · k + 50, k + 1), so that
+// a type around it would be taken apart everywhere.
 fn clamped(k: u64) -> u64
     ensures { (least_index ≤ result) × (result < most_index) }
 {

@@ -3,7 +3,7 @@ ghost use Rattle.std.specs.Prelude.{◌≡◌, ◌<◌, ◌≤◌};
 ghost use Rattle.shown_index.specs.Terms.{least_index, most_index};
 ghost use Rattle.shown_index.specs.ChosenIndex.{most_lower, whole_of, made, marked_of, trial_of, chosen_index};
 
-use crate::compare::{log_c, shown_below, shows_least, shows_most};
+use crate::compare::{LogC, shown_below};
 use crate::guess::guess;
 use crate::{ByB, Fractions, LEAST_INDEX, MOST_INDEX, Mark};
 
@@ -21,12 +21,12 @@ fn try_index(k: u64, n: Fractions) -> Trial
     requires { (least_index ≤ k) × (k < most_index) }
     ensures { result ≡ trial_of k n.lower n.upper }
 {
-    let above = log_c(100 * k + 50);
-    if shows_least(above, n.lower) {
+    let above = LogC::of(100 * k + 50);
+    if above.shows_least(n.lower) {
         return Trial::Higher;
     }
     if shown_below(k, n.lower) {
-        if shows_most(above, n.upper) {
+        if above.shows_most(n.upper) {
             return Trial::Settled;
         }
         return Trial::Near;
@@ -70,7 +70,7 @@ fn mark_of(k: u64, n: Fractions) -> ByB
     requires { (least_index ≤ k) × (k < most_index) }
     ensures { result ≡ marked_of k n.lower n.upper }
 {
-    if shows_most(log_c(100 * k + 50), n.upper) {
+    if LogC::of(100 * k + 50).shows_most(n.upper) {
         return by_b(k, Mark::Settled, n);
     }
     by_b(k + 1, Mark::Near, n)

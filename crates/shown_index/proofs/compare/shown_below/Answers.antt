@@ -14,4 +14,4 @@ returns-then-k-le-LEAST_INDEX c =
 pub returns : goal.returns
 returns c =
     let s = c in
-    c.shows_least.ensures ∙ least_is s.args.p (100 * s.args.k - 50) _ c.log_c.ensures.0
+    c.shows_least.ensures ∙ least_is s.args.p (100 * s.args.k - 50) _ c.of.ensures

@@ -18,27 +18,27 @@ above p k e f = f ∙ least_is p (100 * k + 50) _ e
 pub returns-then-shows_least : goal.returns-then-shows_least
 returns-then-shows_least c =
     let s = c in
-    sym (trial_higher s.args.k s.args.n.lower s.args.n.upper (sym (above s.args.n.lower s.args.k s.log_c-above.ensures.0 s.shows_least.ensures) ∙ c.if-shows_least.true))
+    sym (trial_higher s.args.k s.args.n.lower s.args.n.upper (sym (above s.args.n.lower s.args.k s.of-above.ensures s.shows_least.ensures) ∙ c.if-shows_least.true))
 
 pub returns-then-shows_most : goal.returns-then-shows_most
 returns-then-shows_most c =
     let s = c in
     sym
-    (trial_settled s.args.k s.args.n.lower s.args.n.upper (sym (above s.args.n.lower s.args.k s.log_c-above.ensures.0 s.shows_least.ensures) ∙ c.if-shows_least.false)
+    (trial_settled s.args.k s.args.n.lower s.args.n.upper (sym (above s.args.n.lower s.args.k s.of-above.ensures s.shows_least.ensures) ∙ c.if-shows_least.false)
     (sym c.shown_below.ensures ∙ c.if-shown_below.true)
-    (sym (c.shows_most.ensures ∙ most_is s.args.n.upper (100 * s.args.k + 50) _ c.log_c-above.ensures.0) ∙ c.if-shows_most.true))
+    (sym (c.shows_most.ensures ∙ most_is s.args.n.upper (100 * s.args.k + 50) _ c.of-above.ensures) ∙ c.if-shows_most.true))
 
 pub returns-then-shown_below : goal.returns-then-shown_below
 returns-then-shown_below c =
     let s = c in
     sym
-    (trial_near s.args.k s.args.n.lower s.args.n.upper (sym (above s.args.n.lower s.args.k s.log_c-above.ensures.0 s.shows_least.ensures) ∙ c.if-shows_least.false)
+    (trial_near s.args.k s.args.n.lower s.args.n.upper (sym (above s.args.n.lower s.args.k s.of-above.ensures s.shows_least.ensures) ∙ c.if-shows_least.false)
     (sym c.shown_below.ensures ∙ c.if-shown_below.true)
-    (sym (c.shows_most.ensures ∙ most_is s.args.n.upper (100 * s.args.k + 50) _ c.log_c-above.ensures.0) ∙ c.if-shows_most.false))
+    (sym (c.shows_most.ensures ∙ most_is s.args.n.upper (100 * s.args.k + 50) _ c.of-above.ensures) ∙ c.if-shows_most.false))
 
 pub returns : goal.returns
 returns c =
     let s = c in
     sym
-    (trial_lower s.args.k s.args.n.lower s.args.n.upper (sym (above s.args.n.lower s.args.k s.log_c-above.ensures.0 s.shows_least.ensures) ∙ c.if-shows_least.false)
+    (trial_lower s.args.k s.args.n.lower s.args.n.upper (sym (above s.args.n.lower s.args.k s.of-above.ensures s.shows_least.ensures) ∙ c.if-shows_least.false)
     (sym c.shown_below.ensures ∙ c.if-shown_below.false))

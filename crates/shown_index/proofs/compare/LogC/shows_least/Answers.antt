@@ -4,8 +4,8 @@ use native.Mathlib.Omega.{arith}
 use Rattle.laws.proofs.Order.{leb_same}
 use Rattle.logarithm.specs.Scale.{width, log10, log10000000}
 use Rattle.logarithm.specs.Fractions.{Q_number}
-use Rattle.shown_index.proofs.compare.shows_least.Goals as goal
+use Rattle.shown_index.proofs.compare.LogC.shows_least.Goals as goal
 
 pub returns : goal.returns
 returns c =
-    leb_same ((c.args.lc + width - log10000000) * Q_number) (log10 * c.args.p) ((c.args.lc + width) * Q_number) (log10 * c.args.p + log10000000 * Q_number) (λ h. omega arith) (λ h. omega arith)
+    leb_same ((c.args.self.log + width - log10000000) * Q_number) (log10 * c.args.p) ((c.args.self.log + width) * Q_number) (log10 * c.args.p + log10000000 * Q_number) (λ h. omega arith) (λ h. omega arith)
