@@ -2,6 +2,7 @@
 -- proofs/Outcomes.antt shows that the outcome which they put is that of `Lines`, which speaks of the answer.
 use Rattle.std.specs.Prelude.{ℕ, zero, suc, ◌+◌, ◌*◌, List, ℤ}
 use Rattle.answer_record.specs.Record.{result_size, refusal_at, method_at, index_at}
+use Rattle.sheet.specs.declared.questions.Blocks.{Blocks}
 use Rattle.sheet.specs.Sheet.{u_at, y_at}
 use Rattle.text_fields.specs.Fields.{ascii, decimal, signed_decimal, worded}
 use Rattle.text_lines.specs.Lines.{printed_line}
@@ -17,6 +18,7 @@ outcome_by number (suc (suc (suc more))) index = worded (ascii "B~") (signed_dec
 abbrev pub outcome_at : List ℕ → ℕ → List ℕ
 outcome_at sheet at = outcome_by (refusal_at sheet at) (method_at sheet at) (index_at sheet at)
 
--- the line of pair i and of its record, of blocks that begin at `pairs` and at `results`
-abbrev pub line_at : List ℕ → ℕ → ℕ → ℕ → List ℕ
-line_at sheet pairs results i = printed_line (u_at sheet pairs i) (y_at sheet pairs i) (outcome_at sheet (results + result_size * i))
+-- the line of pair i and of its record, of a sheet's blocks
+abbrev pub line_at : List ℕ → Blocks → ℕ → List ℕ
+line_at sheet blocks i =
+    printed_line (u_at sheet blocks.pairs i) (y_at sheet blocks.pairs i) (outcome_at sheet (blocks.results + result_size * i))

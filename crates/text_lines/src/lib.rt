@@ -12,6 +12,7 @@ ghost use Rattle.text_lines.specs.FromRecord.{outcome_by, outcome_at, line_at};
 use answer_record::layout::{INDEX_AT, METHOD_AT, RESULT_SIZE};
 use arrayvec::ArrayString;
 use index::answer::{METHOD_A, METHOD_B_SETTLED, METHOD_REFUSED};
+use sheet::Blocks;
 use text_fields::{
     INDEX_WIDTH, SPACE, VISCOSITY_WIDTH, decimal, ended, signed_decimal, viscosity, worded,
 };
@@ -67,18 +68,18 @@ fn outcome_at(sheet: &[u8], from: usize) -> ArrayString<OUTCOME_WIDTH>
     outcome_by(sheet[from], sheet[from + METHOD_AT], index)
 }
 
-// The line of pair i and its record, of blocks that begin at `pairs` and at `results`.
+// The line of pair i and its record, of a sheet's blocks.
 #[tactic(auto, unfolding(crate::specs::Lines::printed_line))]
-pub fn line_at(sheet: &[u8], pairs: usize, results: usize, i: usize) -> ArrayString<LINE_WIDTH>
-    requires { PairWithin (length sheet.now) pairs results i }
-    ensures { result.bytes ≡ line_at sheet.now pairs results i }
+pub fn line_at(sheet: &[u8], blocks: Blocks, i: usize) -> ArrayString<LINE_WIDTH>
+    requires { PairWithin (length sheet.now) blocks i }
+    ensures { result.bytes ≡ line_at sheet.now blocks i }
 {
-    let pair = sheet::pair_at(sheet, pairs, i);
+    let pair = sheet::pair_at(sheet, blocks.pairs, i);
     let mut line = ArrayString::new();
     line.push_str(&viscosity(pair.u));
     line.push_str(SPACE);
     line.push_str(&viscosity(pair.y));
     line.push_str(SPACE);
-    line.push_str(&outcome_at(sheet, results + RESULT_SIZE * i));
+    line.push_str(&outcome_at(sheet, blocks.results + RESULT_SIZE * i));
     ended(line)
 }
