@@ -3,14 +3,15 @@ use Prim.Native.Nat.{ℕ, zero, suc, ◌+◌, ◌*◌, ◌≤◌, ◌<◌}
 use mathlib.Core.Path.{◌≡◌, refl, sym, ap, ◌∙◌}
 use mathlib.Core.List.{List, ◌++◌}
 use native.Mathlib.Omega.{arith}
-use borrow.Author.Tests.{eq-eqb, le-leb, lt-leb}
+use borrow.Author.Tests.{le-leb, lt-leb}
 use lib.ListN.{length}
-use Rattle.sheet.specs.declared.SheetAnswer.{SheetAnswer}
-use Rattle.sheet.specs.declared.SheetAnswer.TheVariants.{Refused, Accepted}
+use Rattle.std.specs.Prelude.{Result, Ok, Err}
+use Rattle.sheet.specs.declared.refusal.Refusal.{Refusal}
+use Rattle.sheet.specs.Numbers.{refusal_number}
 use Rattle.answer_record.specs.Record.{result_size}
-use Rattle.sheet.specs.Sheet.{count_of, pairs_of, results_of, u_at, y_at, answer_at, sheet_refusal, sheet_answer_of, sheet_after, sheet_number_of}
+use Rattle.sheet.specs.Sheet.{count_of, pairs_of, results_of, u_at, y_at, answer_at, named_blocks, sheet_refusal, sheet_answer_of, sheet_after, sheet_number_of}
 use Rattle.sheet.proofs.FailsNone.{fails_none}
-use Rattle.sheet.proofs.Blocks.{pair_apart}
+use Rattle.sheet.proofs.Within.{pair_apart}
 use Rattle.sheet.proofs.Records.{u_kept, y_kept}
 use Rattle.sheet.proofs.Worked.{all_stored, number_of_answer, same_length, header_kept}
 use Rattle.sheet.proofs.RecordsAfter.{record_read}
@@ -30,14 +31,14 @@ module _ (s : List ℕ) (q : sheet_refusal s ≡ 0) where
       let read = record_read s q i h in
       rw (read.refusal, read.method, read.index) (outcome_by_fields (answer_at s (pairs_of s) i))
 
-  pairs_kept : pairs_of (sheet_after s) ≡ pairs_of s
-  pairs_kept = header_kept s q _ (omega arith)
+  count_kept : count_of (sheet_after s) ≡ count_of s
+  count_kept = header_kept s q _ (omega arith)
 
-  results_kept : results_of (sheet_after s) ≡ results_of s
-  results_kept = header_kept s q _ (omega arith)
+  blocks_kept : named_blocks (sheet_after s) ≡ named_blocks s
+  blocks_kept = rw (count_kept, header_kept s q 4 (omega arith), header_kept s q 8 (omega arith)) refl
 
   line_read : (i : ℕ) → i < count_of s
-      → line_at (sheet_after s) (pairs_of s) (results_of s) i
+      → line_at (sheet_after s) (named_blocks s) i
       ≡ printed_line (u_at s (pairs_of s) i) (y_at s (pairs_of s) i) (outcome (answer_at s (pairs_of s) i))
   line_read i h =
       let n = count_of s in
@@ -46,37 +47,31 @@ module _ (s : List ℕ) (q : sheet_refusal s ≡ 0) where
       let y = rw (all_stored s q) at (y_kept s (pairs_of s) (results_of s) i n apart) in
       rw (u, y, outcome_read i h)
 
-  lines_read : (n : ℕ) → n ≤ count_of s → lines_at (sheet_after s) (pairs_of s) (results_of s) n ≡ printed_lines s n
+  lines_read : (n : ℕ) → n ≤ count_of s → lines_at (sheet_after s) (named_blocks s) n ≡ printed_lines s n
   unfolding lines_at printed_lines
   lines_read zero h = refl
   lines_read (suc n) h = rw (lines_read n (omega arith), line_read n (omega arith))
 
   -- the worked sheet can be read
-  readable : Readable (sheet_after s) (count_of s)
+  readable : Readable (sheet_after s)
   readable =
       let a = fails_none s q in
       record {
         header = rw (same_length s q) a.header;
-        few = a.few;
-        blocks = rw (pairs_kept, results_kept, same_length s q) a.blocks;
+        few = rw count_kept a.few;
+        blocks = rw (blocks_kept, same_length s q) a.blocks;
       }
 
--- what an accepted sheet's answer says of it
-record AnsweredBy (s : List ℕ) (n : ℕ) : Type 0 where
-  pub none_failed : sheet_refusal s ≡ 0
-  pub count_is : count_of s ≡ n
+  counted : sheet_answer_of s ≡ Ok (count_of s)
+  unfolding sheet_answer_of
+  counted = rw (fails_none s q).found refl
 
-answered_by : (s : List ℕ) (n : ℕ) → sheet_answer_of s ≡ Accepted n → AnsweredBy s n
-unfolding sheet_answer_of
-answered_by s n e =
-    let none : sheet_refusal s ≡ 0 = sym (number_of_answer s) ∙ ap sheet_number_of e in
-    let same : Accepted (count_of s) ≡ Accepted n = rw (eq-eqb _ _ none) at e in
-    record { none_failed = none; count_is = cc }
+-- a sheet that is answered by a count fails no question
+none_failed : (s : List ℕ) {n : ℕ} → sheet_answer_of s ≡ Ok n → sheet_refusal s ≡ 0
+none_failed s e = sym (number_of_answer s) ∙ ap sheet_number_of e
 
-pub readable_by : (s t : List ℕ) (n : ℕ) → t ≡ sheet_after s → sheet_answer_of s ≡ Accepted n → Readable t n
-readable_by s t n w e =
-    let a = answered_by s n e in
-    rw (w, ← a.count_is) (readable s a.none_failed)
+pub readable_by : (s t : List ℕ) (n : ℕ) → t ≡ sheet_after s → sheet_answer_of s ≡ Ok n → Readable t
+readable_by s t n w e = rw w (readable s (none_failed s e))
 
 -- what is printed: for input that is too long, for a refused sheet, and for an accepted one from the lines read
 module _ (s : List ℕ) where
@@ -89,21 +84,19 @@ module _ (s : List ℕ) where
   too_long_kept h = rw (lt-leb _ _ h)
 
   module _ (h : length s ≤ most_input) where
-    by_answer : (a : SheetAnswer) → sheet_answer_of s ≡ a → text_by s a ≡ printed s
+    by_answer : (a : Result ℕ Refusal) → sheet_answer_of s ≡ a → text_by s a ≡ printed s
     unfolding printed text_of
     by_answer a e = rw (le-leb _ _ h, e)
 
-    pub refused_printed : (number : ℕ) → sheet_answer_of s ≡ Refused number → refused_line number ≡ printed s
-    refused_printed number e = by_answer (Refused number) e
+    pub refused_printed : (refusal : Refusal) → sheet_answer_of s ≡ Err refusal → refused_line (refusal_number refusal) ≡ printed s
+    refused_printed refusal e = by_answer (Err refusal) e
 
-    pub accepted_printed : (t : List ℕ) (n : ℕ) → t ≡ sheet_after s → sheet_answer_of s ≡ Accepted n
-        → first_line n ++ lines_at t (pairs_of t) (results_of t) n ≡ printed s
+    pub accepted_printed : (t : List ℕ) (n : ℕ) → t ≡ sheet_after s → sheet_answer_of s ≡ Ok n
+        → first_line (count_of t) ++ lines_at t (named_blocks t) (count_of t) ≡ printed s
     accepted_printed t n w e =
-        let a = answered_by s n e in
-        let q = a.none_failed in
-        let lines : lines_at t (pairs_of t) (results_of t) n ≡ printed_lines s n =
-        rw (w, pairs_kept s q, results_kept s q) (lines_read s q n (omega (arith, a.count_is))) in
-        rw lines (by_answer (Accepted n) e)
+        let q = none_failed s e in
+        let lines = lines_read s q (count_of s) (omega arith) in
+        rw (w, blocks_kept s q, count_kept s q, lines) (by_answer (Ok (count_of s)) (counted s q))
 
     pub worked_kept : (t : List ℕ) → t ≡ sheet_after s → t ≡ input_after s
     unfolding input_after

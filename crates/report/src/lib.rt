@@ -2,7 +2,7 @@
 #![tactic(auto)]
 
 ghost use Rattle.std.specs.Prelude.{◌≡◌, [], ◌++◌, ◌≤◌, length};
-ghost use Rattle.sheet.specs.Sheet.{pairs_of, results_of};
+ghost use Rattle.sheet.specs.Sheet.{count_of, named_blocks};
 ghost use Rattle.sheet.specs.Demand3.{Demand3};
 ghost use Rattle.text_lines.specs.Lines.{first_line};
 ghost use Rattle.report.specs.Text.{most_input, printed, input_after};
@@ -10,8 +10,8 @@ ghost use Rattle.report.specs.FromRecords.{lines_at};
 ghost use Rattle.report.specs.Preconditions.{Readable};
 
 use arrayvec::ArrayString;
-use sheet::SheetAnswer;
-use sheet::layout::{MOST_PAIRS, PAIRS_AT, RESULTS_AT};
+use sheet::layout::MOST_PAIRS;
+use sheet::{Blocks, Refusal};
 use text_lines::{FIRST_LINE_WIDTH, LINE_WIDTH};
 
 // The longest text: its first line, and a line for each pair.
@@ -20,26 +20,25 @@ pub const TEXT_SIZE: usize = FIRST_LINE_WIDTH + LINE_WIDTH * MOST_PAIRS;
 // What is printed, as a text that lies in the value itself.
 pub type Text = ArrayString<TEXT_SIZE>;
 
-// The longest input that is worked; TOO_LONG is the number that refuses longer input.
+// The longest input that is worked; longer input is refused by TOO_LONG, document 01's number 12.
 pub const MOST_INPUT: usize = 65_536;
 
 // What a program reads its input into, one byte more: where that is filled, the input is longer.
 pub const INPUT_SIZE: usize = MOST_INPUT + 1;
 
-const TOO_LONG: u8 = 12;
+const TOO_LONG: Refusal = Refusal::TotalNotLength;
 
-// Puts the text of a worked sheet of n pairs.
+// Puts the text of a worked sheet.
 #[tactic(auto, using(crate::proofs::Lines::one_more), unfolding(crate::specs::FromRecords::lines_at))]
-fn put_pairs(text: &mut Text, sheet: &[u8], n: u32)
+fn put_pairs(text: &mut Text, sheet: &[u8])
     requires empty { text.old.bytes ≡ [] }
-    requires readable { Readable sheet.now n }
-    ensures { text.new.bytes ≡ first_line n ++ lines_at sheet.now (pairs_of sheet.now) (results_of sheet.now) n }
+    requires readable { Readable sheet.now }
+    ensures { text.new.bytes ≡ first_line (count_of sheet.now) ++ lines_at sheet.now (named_blocks sheet.now) (count_of sheet.now) }
 {
-    let pairs = answer_record::number_at(sheet, PAIRS_AT) as usize;
-    let results = answer_record::number_at(sheet, RESULTS_AT) as usize;
-    text.push_str(&text_lines::first_line(n));
-    for i in 0..n as usize {
-        text.push_str(&text_lines::line_at(sheet, pairs, results, i));
+    let blocks = Blocks::named_in(sheet);
+    text.push_str(&text_lines::first_line(blocks.count as u32));
+    for i in 0..blocks.count {
+        text.push_str(&text_lines::line_at(sheet, blocks, i));
     }
 }
 
@@ -52,11 +51,11 @@ pub fn print_sheet(sheet: &mut [u8], text: &mut Text)
 {
     text.clear();
     if sheet.len() > MOST_INPUT {
-        text.push_str(&text_lines::refused_line(TOO_LONG));
+        text.push_str(&text_lines::refused_line(u8::from(TOO_LONG)));
         return;
     }
     match sheet::work_sheet(sheet) {
-        SheetAnswer::Refused(number) => text.push_str(&text_lines::refused_line(number)),
-        SheetAnswer::Accepted(n) => put_pairs(text, sheet, n),
+        Ok(_) => put_pairs(text, sheet),
+        Err(refusal) => text.push_str(&text_lines::refused_line(u8::from(refusal))),
     }
 }

@@ -6,6 +6,6 @@ use Rattle.report.proofs.put_pairs.Given as goal
 
 abbrev pub invariant-loop-i : goal.invariant-loop-i
 invariant-loop-i l = record {
-  lines : l.text.bytes ≡ first_line l.n ++ lines_at l.sheet l.pairs l.results l.i;
+  lines : l.text.bytes ≡ first_line l.blocks.count ++ lines_at l.sheet l.blocks l.i;
   room : length l.text.bytes ≤ 11 + 39 * l.i;
 }
