@@ -2,16 +2,14 @@
 // `sheet`'s promise. A sheet that is refused, and input that vi_print would not work either, is not written: standard error says so.
 #![tactic(auto)]
 
-use sheet::SheetAnswer;
-
 fn work(rt: &HostRuntime, sheet: &mut [u8]) {
     if sheet.len() > report::MOST_INPUT {
         streams::say(rt, "not worked: the input is longer than 65,536 bytes");
         return;
     }
     match sheet::work_sheet(sheet) {
-        SheetAnswer::Accepted(_) => streams::write_output(rt, sheet),
-        SheetAnswer::Refused(_) => streams::say(
+        Ok(_) => streams::write_output(rt, sheet),
+        Err(_) => streams::say(
             rt,
             "not worked: the sheet is refused; vi_print prints the number",
         ),
