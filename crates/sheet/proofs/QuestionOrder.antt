@@ -1,14 +1,18 @@
 -- The questions to a sheet in their order: what each run of yes and a no gives. specs/Numbers.antt has the number of each refusal.
 use Prim.Native.Nat.{ℕ, ◌+◌, ◌*◌, ◌≤◌, ◌<◌}
-use mathlib.Core.Path.{◌≡◌, sym, ◌∙◌}
+use mathlib.Core.Path.{◌≡◌, refl, sym, ap, ◌∙◌}
 use mathlib.Core.Bool.{Bool, true, false}
 use mathlib.Core.List.{List}
 use borrow.Author.Tests.{le-leb, lt-leb, eq-eqb, ne_eqb}
+use lib.Dec.{leb, eqb}
 use lib.ListN.{length}
+use Rattle.laws.specs.Questions.{ask}
 use Rattle.answer_record.specs.Record.{result_size}
 use Rattle.sheet.specs.declared.questions.Blocks.{Blocks}
-use Rattle.sheet.specs.Sheet.{pair_size, header_size, most_pairs, count_of, pairs_of, results_of, total_of, end_of_pairs, end_of_results, stands_within, share_no_byte, named_blocks, blocks_of}
-use Rattle.std.specs.Prelude.{Ok, Err}
+use Rattle.sheet.specs.Sheet.{pair_size, header_size, most_pairs, count_of, pairs_of, results_of, total_of, end_of_pairs, end_of_results, stands_within, share_no_byte, named_blocks, asked, blocks_of, sheet_number_of, sheet_refusal}
+use Rattle.std.specs.Prelude.{Result, Ok, Err}
+use Rattle.sheet.specs.declared.refusal.Refusal.{Refusal}
+use Rattle.sheet.specs.Numbers.{refusal_number}
 use Rattle.sheet.specs.declared.refusal.Refusal.TheVariants.{NoHeader, TotalNotLength, TooManyPairs, PairsOutside, ResultsOutside, BlocksShareBytes}
 
 -- the last three questions, of a sheet
@@ -20,6 +24,24 @@ results_within s = stands_within (results_of s) (end_of_results s) (total_of s)
 
 abbrev pub blocks_apart : List ℕ → Bool
 blocks_apart s = share_no_byte (pairs_of s) (end_of_pairs s) (results_of s) (end_of_results s)
+
+-- The number of a sheet is that of its first no, with the paper's numbers beside the questions. No proof cites this law; it shows that `sheet_refusal` is
+-- what the paper says
+number_asked : (b : Bool) (r : Refusal) (later : Result Blocks Refusal) → sheet_number_of (asked b r later) ≡ ask b (refusal_number r) (sheet_number_of later)
+number_asked true r later = refl
+number_asked false r later = refl
+
+pub by_numbers : (s : List ℕ) → sheet_refusal s
+    ≡ ask (leb header_size (length s)) 11 (ask (eqb (total_of s) (length s)) 12 (ask (leb (count_of s) most_pairs) 13
+    (ask (pairs_within s) 14 (ask (results_within s) 15 (ask (blocks_apart s) 16 0)))))
+unfolding sheet_refusal blocks_of
+by_numbers s =
+    number_asked (leb header_size (length s)) NoHeader _
+    ∙ ap (ask (leb header_size (length s)) 11) (number_asked (eqb (total_of s) (length s)) TotalNotLength _
+    ∙ ap (ask (eqb (total_of s) (length s)) 12) (number_asked (leb (count_of s) most_pairs) TooManyPairs _
+    ∙ ap (ask (leb (count_of s) most_pairs) 13) (number_asked (pairs_within s) PairsOutside _
+    ∙ ap (ask (pairs_within s) 14) (number_asked (results_within s) ResultsOutside _
+    ∙ ap (ask (results_within s) 15) (number_asked (blocks_apart s) BlocksShareBytes _)))))
 
 -- what the code asked of the blocks that it read, asked of the header's
 module _ (s : List ℕ) {blocks : Blocks} {total : ℕ} {r v : Bool} (e : blocks ≡ named_blocks s) (t : total ≡ total_of s) where
