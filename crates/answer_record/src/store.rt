@@ -68,7 +68,7 @@ pub fn store_record(to: &mut [u8], at: usize, fields: Record)
     requires { at + result_size ≤ length to.old }
     ensures { to.new ≡ stored to.old at (laid_out fields) }
 {
-    // Byte by byte: a copy of these four as an array goes through the stack, and takes 28 instructions a record where this takes 17.
+    // Byte by byte: a copy of these four as an array goes through the stack. Compiled alone, with tests of the size, it is 32 instructions, this 20.
     to[at] = fields.number;
     to[at + METHOD_AT] = fields.method;
     to[at + 2] = 0;
