@@ -8,10 +8,9 @@ mod trays;
 ghost use Rattle.std.specs.Prelude.{◌<◌};
 ghost use Rattle.sheet.specs.Sheet.{header_size};
 
-use gravity_constant::Temperature;
-use index::{Answer, Mark};
-use reference::BasisAnswer;
-use sheet::SheetAnswer;
+use gravity_constant::{Temperature, answer_constant};
+use index::{Index, Mark, answer_pair};
+use reference::answer_basis;
 use sheet::layout::{HEADER_SIZE, PAIRS_AT, RESULTS_AT};
 use std::io;
 
@@ -20,76 +19,39 @@ pub fn told(rt: &impl Print, example: &str, good: bool) -> io::Result<()> {
     println!(rt; "{example}: {found}")
 }
 
-// L or H, in units of 10^-10 mm²/s; 0, which neither is, where y is refused.
-fn l_of(y: u32) -> u64 {
-    match reference::answer_basis(y) {
-        BasisAnswer::Found(basis) => basis.l,
-        BasisAnswer::Refused(_) => 0,
-    }
+// An answer whose refusal is the number that the documents give it.
+pub fn numbered<T, E>(answer: Result<T, E>) -> Result<T, u8>
+where
+    u8: From<E>,
+{
+    answer.map_err(u8::from)
 }
 
-fn h_of(y: u32) -> u64 {
-    match reference::answer_basis(y) {
-        BasisAnswer::Found(basis) => basis.h,
-        BasisAnswer::Refused(_) => 0,
-    }
+// L or H, in units of 10^-10 mm²/s; None where y is refused.
+fn l_of(y: u32) -> Option<u64> {
+    answer_basis(y).ok().map(|basis| basis.l)
 }
 
-// Is y refused by that number when L and H are asked for?
-fn basis_refused(y: u32, number: u8) -> bool {
-    match reference::answer_basis(y) {
-        BasisAnswer::Found(_) => false,
-        BasisAnswer::Refused(by) => by == number,
-    }
+fn h_of(y: u32) -> Option<u64> {
+    answer_basis(y).ok().map(|basis| basis.h)
 }
 
-// Is the pair answered by A with that index?
-fn by_a(u: u32, y: u32, index: i32) -> bool {
-    match index::answer_pair(u, y) {
-        Answer::A(found) => found == index,
-        Answer::B(_) => false,
-        Answer::Refused(_) => false,
-    }
-}
-
-// Is the pair answered by B, settled, with that index?
-fn by_b(u: u32, y: u32, index: u32) -> bool {
-    match index::answer_pair(u, y) {
-        Answer::A(_) => false,
-        Answer::B(b) => {
-            let mark = b.mark;
-            match mark {
-                Mark::Settled => b.index == index,
-                Mark::Near => false,
-            }
-        }
-        Answer::Refused(_) => false,
-    }
-}
-
-// Is the pair refused by that number?
-fn refused(u: u32, y: u32, number: u8) -> bool {
-    match index::answer_pair(u, y) {
-        Answer::A(_) => false,
-        Answer::B(_) => false,
-        Answer::Refused(by) => by == number,
+// Is it an answer by B with that index and that mark?
+pub fn by_b<E: Drop>(answer: Result<Index, E>, index: u32, mark: Mark) -> bool {
+    match answer {
+        Ok(Index::B(b)) => b.index == index && b.mark == mark,
+        _ => false,
     }
 }
 
 // Is the constant answered, with that k in thousandths?
 fn constant_is(t: Temperature, viscosity: u32, density: u32, k: i32) -> bool {
-    match gravity_constant::answer_constant(t, viscosity, density) {
-        Ok(c) => c.thousandths == k,
-        Err(_) => false,
-    }
+    answer_constant(t, viscosity, density).is_ok_and(|found| found.thousandths == k)
 }
 
 // Is the constant refused by that number?
 fn constant_refused(t: Temperature, viscosity: u32, density: u32, number: u8) -> bool {
-    match gravity_constant::answer_constant(t, viscosity, density) {
-        Ok(_) => false,
-        Err(refusal) => u8::from(refusal) == number,
-    }
+    numbered(answer_constant(t, viscosity, density)) == Err(number)
 }
 
 // A sheet that is a header and nothing else: n 0, offsets 16 and 16, total 16.
@@ -97,30 +59,38 @@ fn header_alone() -> [u8; HEADER_SIZE] {
     [0, 0, 0, 0, 16, 0, 0, 0, 16, 0, 0, 0, 16, 0, 0, 0]
 }
 
-// Is a header alone, with the byte `x` at `at`, refused by that number and kept? Number 0: is it accepted with no pairs, and kept?
-fn sheet_answers(at: usize, x: u8, number: u8) -> bool
+// Is a header alone, with the byte `x` at `at`, answered by that count of pairs or refused by that number, and kept?
+fn sheet_answers(at: usize, x: u8, expected: Result<u32, u8>) -> bool
     requires { at < header_size }
 {
     let mut handed = header_alone();
     handed[at] = x;
     let mut worked = handed;
-    let good = match sheet::work_sheet(&mut worked) {
-        SheetAnswer::Refused(by) => by == number,
-        SheetAnswer::Accepted(n) => n == 0 && number == 0,
-    };
-    good && handed == worked
+    numbered(sheet::work_sheet(&mut worked)) == expected && handed == worked
 }
 
 fn l_and_h(rt: &impl Print) -> io::Result<()> {
-    told(rt, "y 8860: L 119.94", l_of(8_860) == 1_199_400_000_000)?;
-    told(rt, "y 8860: H 69.48", h_of(8_860) == 694_800_000_000)?;
-    told(rt, "y 5050: H 28.975", h_of(5_050) == 289_750_000_000)?;
-    told(rt, "y 70000: L 4905", l_of(70_000) == 49_050_000_000_000)?;
-    told(rt, "y 70000: H 1556", h_of(70_000) == 15_560_000_000_000)?;
+    told(
+        rt,
+        "y 8860: L 119.94",
+        l_of(8_860) == Some(1_199_400_000_000),
+    )?;
+    told(rt, "y 8860: H 69.48", h_of(8_860) == Some(694_800_000_000))?;
+    told(rt, "y 5050: H 28.975", h_of(5_050) == Some(289_750_000_000))?;
+    told(
+        rt,
+        "y 70000: L 4905",
+        l_of(70_000) == Some(49_050_000_000_000),
+    )?;
+    told(
+        rt,
+        "y 70000: H 1556",
+        h_of(70_000) == Some(15_560_000_000_000),
+    )?;
     told(
         rt,
         "y 70001: L 49040016128353 units",
-        l_of(70_001) == 49_040_016_128_353,
+        l_of(70_001) == Some(49_040_016_128_353),
     )?;
     told(
         rt,
@@ -131,41 +101,85 @@ fn l_and_h(rt: &impl Print) -> io::Result<()> {
 }
 
 fn answered_pairs(rt: &impl Print) -> io::Result<()> {
-    told(rt, "(73300, 8860): A 92", by_a(73_300, 8_860, 92))?;
-    told(rt, "(53470, 7080): A 87", by_a(53_470, 7_080, 87))?;
-    told(rt, "(53470, 7800): B 111", by_b(53_470, 7_800, 111))?;
-    told(rt, "(28490, 5000): A 100", by_a(28_490, 5_000, 100))?;
-    told(rt, "(28489, 5000): B 100", by_b(28_489, 5_000, 100))?;
-    told(rt, "(7986, 2000): A 1", by_a(7_986, 2_000, 1))?;
-    told(rt, "(8018, 2000): A -1", by_a(8_018, 2_000, -1))?;
+    told(
+        rt,
+        "(73300, 8860): A 92",
+        answer_pair(73_300, 8_860) == Ok(Index::A(92)),
+    )?;
+    told(
+        rt,
+        "(53470, 7080): A 87",
+        answer_pair(53_470, 7_080) == Ok(Index::A(87)),
+    )?;
+    told(
+        rt,
+        "(53470, 7800): B 111",
+        by_b(answer_pair(53_470, 7_800), 111, Mark::Settled),
+    )?;
+    told(
+        rt,
+        "(28490, 5000): A 100",
+        answer_pair(28_490, 5_000) == Ok(Index::A(100)),
+    )?;
+    told(
+        rt,
+        "(28489, 5000): B 100",
+        by_b(answer_pair(28_489, 5_000), 100, Mark::Settled),
+    )?;
+    told(
+        rt,
+        "(7986, 2000): A 1",
+        answer_pair(7_986, 2_000) == Ok(Index::A(1)),
+    )?;
+    told(
+        rt,
+        "(8018, 2000): A -1",
+        answer_pair(8_018, 2_000) == Ok(Index::A(-1)),
+    )?;
     told(
         rt,
         "(1000000000, 2000): A -62499500",
-        by_a(1_000_000_000, 2_000, -62_499_500),
+        answer_pair(1_000_000_000, 2_000) == Ok(Index::A(-62_499_500)),
     )?;
-    told(rt, "(6188000, 100000): A 50", by_a(6_188_000, 100_000, 50))?;
+    told(
+        rt,
+        "(6188000, 100000): A 50",
+        answer_pair(6_188_000, 100_000) == Ok(Index::A(50)),
+    )?;
     Ok(())
 }
 
 fn refused_pairs(rt: &impl Print) -> io::Result<()> {
-    told(rt, "L and H at y 1999: refused 1", basis_refused(1_999, 1))?;
-    told(rt, "(20000, 1999): refused 1", refused(20_000, 1_999, 1))?;
+    told(
+        rt,
+        "L and H at y 1999: refused 1",
+        numbered(answer_basis(1_999)) == Err(1),
+    )?;
+    told(
+        rt,
+        "(20000, 1999): refused 1",
+        numbered(answer_pair(20_000, 1_999)) == Err(1),
+    )?;
     told(
         rt,
         "L and H at y 500001: refused 2",
-        basis_refused(500_001, 2),
+        numbered(answer_basis(500_001)) == Err(2),
     )?;
     told(
         rt,
         "(600000, 500001): refused 2",
-        refused(600_000, 500_001, 2),
+        numbered(answer_pair(600_000, 500_001)) == Err(2),
     )?;
     told(
         rt,
         "(1000000001, 2000): refused 3",
-        refused(1_000_000_001, 2_000, 3),
+        numbered(answer_pair(1_000_000_001, 2_000)) == Err(3),
     )?;
-    told(rt, "(2000, 2000): refused 4", refused(2_000, 2_000, 4))?;
+    told(
+        rt,
+        "(2000, 2000): refused 4",
+        numbered(answer_pair(2_000, 2_000)) == Err(4),
+    )?;
     Ok(())
 }
 
@@ -173,17 +187,17 @@ fn sheets(rt: &impl Print) -> io::Result<()> {
     told(
         rt,
         "16 bytes, n 0, offsets 16 and 16, total 16: accepted, unchanged",
-        sheet_answers(PAIRS_AT, 16, 0),
+        sheet_answers(PAIRS_AT, 16, Ok(0)),
     )?;
     told(
         rt,
         "pair offset 17 there: refused 14",
-        sheet_answers(PAIRS_AT, 17, 14),
+        sheet_answers(PAIRS_AT, 17, Err(14)),
     )?;
     told(
         rt,
         "only the result offset 17: refused 15",
-        sheet_answers(RESULTS_AT, 17, 15),
+        sheet_answers(RESULTS_AT, 17, Err(15)),
     )?;
     Ok(())
 }

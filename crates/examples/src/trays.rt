@@ -1,102 +1,49 @@
 // Change requests #102 and #104 from an empty tray on: what fills it, what refuses, what it says of itself, and numbers of 32 bits.
-use crate::told;
-use index::Answer;
+use crate::{by_b, numbered, told};
+use index::{Index, Mark};
 use std::io;
-use tray::{State, TRAY_SIZE, Taken};
-
-// Is the sample taken in by procedure A with that index?
-fn put_by_a(tray: &mut [u32; TRAY_SIZE], number: u32, u: u32, y: u32, index: i32) -> bool {
-    match tray::put(tray, number, u, y) {
-        Answer::A(found) => found == index,
-        Answer::B(_) => false,
-        Answer::Refused(_) => false,
-    }
-}
-
-// Is it taken in by procedure B with that index?
-fn put_by_b(tray: &mut [u32; TRAY_SIZE], number: u32, u: u32, y: u32, index: u32) -> bool {
-    match tray::put(tray, number, u, y) {
-        Answer::A(_) => false,
-        Answer::B(b) => b.index == index,
-        Answer::Refused(_) => false,
-    }
-}
-
-// Is it refused by that number?
-fn put_refused(tray: &mut [u32; TRAY_SIZE], number: u32, u: u32, y: u32, by: u8) -> bool {
-    match tray::put(tray, number, u, y) {
-        Answer::A(_) => false,
-        Answer::B(_) => false,
-        Answer::Refused(found) => found == by,
-    }
-}
+use tray::TRAY_SIZE;
 
 // Is a sample of that pair taken out?
 fn taken(tray: &mut [u32; TRAY_SIZE], number: u32, u: u32, y: u32) -> bool {
-    match tray::take(tray, number) {
-        Taken::Out(s) => s.u == u && s.y == y,
-        Taken::Refused(_) => false,
-    }
+    tray::take(tray, number).is_ok_and(|sample| sample.u == u && sample.y == y)
 }
 
-// Is taking out refused by that number?
-fn take_refused(tray: &mut [u32; TRAY_SIZE], number: u32, by: u8) -> bool {
-    match tray::take(tray, number) {
-        Taken::Out(_) => false,
-        Taken::Refused(found) => found == by,
-    }
-}
-
-// Does the tray say that it is empty?
-fn empty(tray: &[u32; TRAY_SIZE]) -> bool {
-    match tray::summary(tray) {
-        State::Empty => true,
-        State::Holding(_) => false,
-        State::Refused(_) => false,
-    }
-}
-
-// Does it hold indices from that to that, of that sum?
+// Does the tray hold indices from that to that, of that sum?
 fn holds(tray: &[u32; TRAY_SIZE], lowest: i64, highest: i64, sum: i64) -> bool {
-    match tray::summary(tray) {
-        State::Empty => false,
-        State::Holding(t) => t.lowest == lowest && t.highest == highest && t.sum == sum,
-        State::Refused(_) => false,
-    }
+    matches!(tray::summary(tray), Ok(Some(t)) if t.lowest == lowest && t.highest == highest && t.sum == sum)
 }
 
 // Does it count that many by A, by B settled and by B near?
 fn counts(tray: &[u32; TRAY_SIZE], a: u32, settled: u32, near: u32) -> bool {
-    match tray::summary(tray) {
-        State::Empty => false,
-        State::Holding(t) => t.a == a && t.settled == settled && t.near == near,
-        State::Refused(_) => false,
-    }
+    matches!(tray::summary(tray), Ok(Some(t)) if t.a == a && t.settled == settled && t.near == near)
 }
 
-// Puts oil (1000000000, 2000) in under the numbers from 0 to 63.
-fn fill(tray: &mut [u32; TRAY_SIZE]) {
-    for number in 0..64 {
-        tray::put(tray, number, 1_000_000_000, 2_000);
-    }
+// Is oil (1000000000, 2000) taken in under each number from 0 to 63?
+fn filled(tray: &mut [u32; TRAY_SIZE]) -> bool {
+    (0..64).all(|number| tray::put(tray, number, 1_000_000_000, 2_000).is_ok())
 }
 
 fn three_samples(rt: &impl Print, tray: &mut [u32; TRAY_SIZE]) -> io::Result<()> {
-    told(rt, "a tray of zeros: empty", empty(tray))?;
+    told(
+        rt,
+        "a tray of zeros: empty",
+        tray::summary(tray) == Ok(None),
+    )?;
     told(
         rt,
         "put 12 (73300, 8860): A 92",
-        put_by_a(tray, 12, 73_300, 8_860, 92),
+        tray::put(tray, 12, 73_300, 8_860) == Ok(Index::A(92)),
     )?;
     told(
         rt,
         "put 7 (22830, 5050): B 156",
-        put_by_b(tray, 7, 22_830, 5_050, 156),
+        by_b(tray::put(tray, 7, 22_830, 5_050), 156, Mark::Settled),
     )?;
     told(
         rt,
         "put 200 (144936, 16776): B 125",
-        put_by_b(tray, 200, 144_936, 16_776, 125),
+        by_b(tray::put(tray, 200, 144_936, 16_776), 125, Mark::Near),
     )?;
     told(
         rt,
@@ -111,15 +58,19 @@ fn three_samples(rt: &impl Print, tray: &mut [u32; TRAY_SIZE]) -> io::Result<()>
     told(
         rt,
         "put 12 (53470, 7080): refused 31",
-        put_refused(tray, 12, 53_470, 7_080, 31),
+        numbered(tray::put(tray, 12, 53_470, 7_080)) == Err(31),
     )?;
     told(
         rt,
         "put 12 (20000, 1999): refused 1",
-        put_refused(tray, 12, 20_000, 1_999, 1),
+        numbered(tray::put(tray, 12, 20_000, 1_999)) == Err(1),
     )?;
     told(rt, "take 7: (22830, 5050)", taken(tray, 7, 22_830, 5_050))?;
-    told(rt, "take 7: refused 33", take_refused(tray, 7, 33))?;
+    told(
+        rt,
+        "take 7: refused 33",
+        numbered(tray::take(tray, 7)) == Err(33),
+    )?;
     told(
         rt,
         "the tray: from 92 to 125, sum 217",
@@ -131,16 +82,15 @@ fn three_samples(rt: &impl Print, tray: &mut [u32; TRAY_SIZE]) -> io::Result<()>
         "take 200: (144936, 16776)",
         taken(tray, 200, 144_936, 16_776),
     )?;
-    told(rt, "the tray: empty", empty(tray))?;
+    told(rt, "the tray: empty", tray::summary(tray) == Ok(None))?;
     Ok(())
 }
 
 fn full_tray(rt: &impl Print, tray: &mut [u32; TRAY_SIZE]) -> io::Result<()> {
-    fill(tray);
     told(
         rt,
         "64 put in: A 64, B settled 0, B near 0",
-        counts(tray, 64, 0, 0),
+        filled(tray) && counts(tray, 64, 0, 0),
     )?;
     told(
         rt,
@@ -150,17 +100,17 @@ fn full_tray(rt: &impl Print, tray: &mut [u32; TRAY_SIZE]) -> io::Result<()> {
     told(
         rt,
         "put 64 (73300, 8860): refused 32",
-        put_refused(tray, 64, 73_300, 8_860, 32),
+        numbered(tray::put(tray, 64, 73_300, 8_860)) == Err(32),
     )?;
     told(
         rt,
         "put 63 (73300, 8860): refused 31",
-        put_refused(tray, 63, 73_300, 8_860, 31),
+        numbered(tray::put(tray, 63, 73_300, 8_860)) == Err(31),
     )?;
     told(
         rt,
         "put 64 (2000, 2000): refused 4",
-        put_refused(tray, 64, 2_000, 2_000, 4),
+        numbered(tray::put(tray, 64, 2_000, 2_000)) == Err(4),
     )?;
     told(
         rt,
@@ -170,7 +120,7 @@ fn full_tray(rt: &impl Print, tray: &mut [u32; TRAY_SIZE]) -> io::Result<()> {
     told(
         rt,
         "put 64 (73300, 8860): A 92",
-        put_by_a(tray, 64, 73_300, 8_860, 92),
+        tray::put(tray, 64, 73_300, 8_860) == Ok(Index::A(92)),
     )?;
     told(
         rt,
@@ -185,37 +135,41 @@ fn wide_numbers(rt: &impl Print, tray: &mut [u32; TRAY_SIZE]) -> io::Result<()> 
     told(
         rt,
         "put 1 (73300, 8860): A 92",
-        put_by_a(tray, 1, 73_300, 8_860, 92),
+        tray::put(tray, 1, 73_300, 8_860) == Ok(Index::A(92)),
     )?;
     told(
         rt,
         "put 257 (22830, 5050): B 156",
-        put_by_b(tray, 257, 22_830, 5_050, 156),
+        by_b(tray::put(tray, 257, 22_830, 5_050), 156, Mark::Settled),
     )?;
     told(
         rt,
         "put 65537 (53470, 7080): A 87",
-        put_by_a(tray, 65_537, 53_470, 7_080, 87),
+        tray::put(tray, 65_537, 53_470, 7_080) == Ok(Index::A(87)),
     )?;
     told(
         rt,
         "put 16777217 (28490, 5000): A 100",
-        put_by_a(tray, 16_777_217, 28_490, 5_000, 100),
+        tray::put(tray, 16_777_217, 28_490, 5_000) == Ok(Index::A(100)),
     )?;
     told(
         rt,
         "put 0 (53470, 7800): B 111",
-        put_by_b(tray, 0, 53_470, 7_800, 111),
+        by_b(tray::put(tray, 0, 53_470, 7_800), 111, Mark::Settled),
     )?;
     told(
         rt,
         "put 4294967295 (144936, 16776): B 125",
-        put_by_b(tray, 4_294_967_295, 144_936, 16_776, 125),
+        by_b(
+            tray::put(tray, 4_294_967_295, 144_936, 16_776),
+            125,
+            Mark::Near,
+        ),
     )?;
     told(
         rt,
         "put 4294967295 (73300, 8860): refused 31",
-        put_refused(tray, 4_294_967_295, 73_300, 8_860, 31),
+        numbered(tray::put(tray, 4_294_967_295, 73_300, 8_860)) == Err(31),
     )?;
     told(
         rt,
@@ -226,7 +180,11 @@ fn wide_numbers(rt: &impl Print, tray: &mut [u32; TRAY_SIZE]) -> io::Result<()> 
 }
 
 fn wide_numbers_taken(rt: &impl Print, tray: &mut [u32; TRAY_SIZE]) -> io::Result<()> {
-    told(rt, "take 255: refused 33", take_refused(tray, 255, 33))?;
+    told(
+        rt,
+        "take 255: refused 33",
+        numbered(tray::take(tray, 255)) == Err(33),
+    )?;
     told(
         rt,
         "take 65537: (53470, 7080)",
@@ -251,10 +209,10 @@ fn wide_numbers_taken(rt: &impl Print, tray: &mut [u32; TRAY_SIZE]) -> io::Resul
     told(
         rt,
         "take 4294967295: refused 33",
-        take_refused(tray, 4_294_967_295, 33),
+        numbered(tray::take(tray, 4_294_967_295)) == Err(33),
     )?;
     told(rt, "take 0: (53470, 7800)", taken(tray, 0, 53_470, 7_800))?;
-    told(rt, "the tray: empty", empty(tray))?;
+    told(rt, "the tray: empty", tray::summary(tray) == Ok(None))?;
     Ok(())
 }
 
