@@ -1,14 +1,13 @@
 -- Change request #105: "every list of calls from an empty tray", of the tray that keeps its summary: what a call and a list of calls leave and answer.
 use Rattle.std.specs.Prelude.{ℕ, List, [], ◌∷◌}
-use Rattle.index.specs.Answer.{number_of}
-use Rattle.tray.specs.Calls.{Call, Put, Take, Ask, CallAnswer, ToPut, ToTake, ToAsk, taken_number, state_number}
+use Rattle.tray.specs.Calls.{Call, Put, Take, Ask, CallAnswer, ToPut, ToTake, ToAsk, refused_by}
 use Rattle.summary_tray.specs.SummaryTray.{put_answer, tray_after_put, take_answer, tray_after_take, state_of}
 
 -- the number of the question that refuses a call, 0 where none does
 abbrev pub call_refusal : List ℕ → Call → ℕ
-call_refusal tray (Put number u y) = number_of (put_answer tray number u y)
-call_refusal tray (Take number) = taken_number (take_answer tray number)
-call_refusal tray Ask = state_number (state_of tray)
+call_refusal tray (Put number u y) = refused_by (put_answer tray number u y)
+call_refusal tray (Take number) = refused_by (take_answer tray number)
+call_refusal tray Ask = refused_by (state_of tray)
 
 -- the tray after a call, and after a list of calls, the first one first
 abbrev pub after : List ℕ → Call → List ℕ

@@ -1,22 +1,21 @@
 -- Change request #105, of lists of calls: "Over every list of calls from an empty tray, after each put and take they equal what a walk over the held samples would
 -- give, also when the lowest leaves while another sample has the same index; with none held the tray still says so." What holds after every list of calls, and of
 -- each call on any memory, whoever wrote it. The walk that the kept summary is compared with is #102's (tray, State.antt: `state_of`).
-use Rattle.std.specs.Prelude.{ℕ, ◌<◌, ◌≡◌, false, List, [], length, get_or, drop}
-use Rattle.index.specs.declared.answer.Index.TheVariants as answer
-use Rattle.index.specs.Answer.{number_of, index_of}
+use Rattle.std.specs.Prelude.{ℕ, ◌<◌, ◌≡◌, false, List, [], length, get_or, drop, Option, Some, None, Result, Ok, Err}
+use Rattle.index.specs.Answer.{index_of}
 use Rattle.index_summary.specs.declared.Summary.{Summary}
-use Rattle.index_summary.specs.Summary.{Some, is_between}
+use Rattle.index_summary.specs.Summary as answers
+use Rattle.index_summary.specs.Summary.{is_between}
 use Rattle.index_summary.specs.Preconditions.{is_within}
 use Rattle.tray_places.specs.declared.samples.Sample.{Sample}
 use Rattle.tray_places.specs.Places as layout
 use Rattle.tray_places.specs.Places.{held_in}
-use Rattle.tray.specs.declared.Taken.TheVariants as taken
-use Rattle.tray.specs.declared.state.State.{State}
-use Rattle.tray.specs.declared.state.State.TheVariants as state
+use Rattle.tray.specs.declared.refusal.Refusal.{Refusal}
+use Rattle.tray.specs.declared.refusal.Refusal.TheVariants.{NotATray}
 use Rattle.tray.specs.Tray as places
 use Rattle.tray.specs.State as walk
 use Rattle.tray.specs.Calls as before
-use Rattle.tray.specs.Calls.{Call, Put, Take}
+use Rattle.tray.specs.Calls.{Call, Put, Take, refused_by}
 use Rattle.summary_tray.specs.SummaryTray.{empty_tray, places_in, kept_in, put_answer, take_answer, state_of}
 use Rattle.summary_tray.specs.Calls.{call_refusal, after, after_all, answers_to}
 
@@ -25,13 +24,13 @@ abbrev pub left : List Call → List ℕ
 left calls = after_all empty_tray calls
 
 -- what a walk over the samples held gives
-abbrev pub walked : List ℕ → State
+abbrev pub walked : List ℕ → Result (Option Summary) Refusal
 walked tray = walk.state_of (places_in tray)
 
 -- a state that holds samples whose lowest and highest index are those of t
-pub record SameExtremes (t : Summary) (now : State) : Type 0 where
+pub record SameExtremes (t : Summary) (now : Result (Option Summary) Refusal) : Type 0 where
   pub summary : Summary
-  pub holding : now ≡ state.Holding summary
+  pub holding : now ≡ Ok (Some summary)
   pub lowest : summary.lowest ≡ t.lowest
   pub highest : summary.highest ≡ t.highest
 
@@ -44,15 +43,15 @@ pub record KeptSummary (calls : List Call) : Type 0 where
   pub right : walk.RightState (places_in (left calls)) (state_of (left calls))
   -- "also when the lowest leaves while another sample has the same index", or the highest: where a sample is taken out and one with its index is left, the lowest
   -- and the highest are what they were
-  pub same_index : (number : ℕ) {s : Sample} {t : Summary} → take_answer (left calls) number ≡ taken.Out s → state_of (left calls) ≡ state.Holding t
-      → Some (λ a. index_of a ≡ index_of s.answer) (walk.answers_in (places_in (after (left calls) (Take number))))
+  pub same_index : (number : ℕ) {s : Sample} {t : Summary} → take_answer (left calls) number ≡ Ok s → state_of (left calls) ≡ Ok (Some t)
+      → answers.Some (λ a. index_of a ≡ index_of s.answer) (walk.answers_in (places_in (after (left calls) (Take number))))
       → SameExtremes t (state_of (after (left calls) (Take number)))
   -- "with none held the tray still says so": whatever it held before, and when the last sample leaves
-  pub none_held : held_in (places_in (left calls)) ≡ [] → state_of (left calls) ≡ state.Empty
-  pub last_leaves : (number : ℕ) {s : Sample} → take_answer (left calls) number ≡ taken.Out s → length (held_in (places_in (left calls))) ≡ 1
-      → state_of (after (left calls) (Take number)) ≡ state.Empty
+  pub none_held : held_in (places_in (left calls)) ≡ [] → state_of (left calls) ≡ Ok None
+  pub last_leaves : (number : ℕ) {s : Sample} → take_answer (left calls) number ≡ Ok s → length (held_in (places_in (left calls))) ≡ 1
+      → state_of (after (left calls) (Take number)) ≡ Ok None
   -- a sample that is taken out and put in again under its number leaves the summary as it was
-  pub put_back : (number : ℕ) {s : Sample} → take_answer (left calls) number ≡ taken.Out s
+  pub put_back : (number : ℕ) {s : Sample} → take_answer (left calls) number ≡ Ok s
       → state_of (after (after (left calls) (Take number)) (Put number s.u s.y)) ≡ state_of (left calls)
 
 -- every answer, of puts, takes and summaries, is the one that it was before the summary was kept, and so are the samples held: what #102 and #104 say of them
@@ -74,23 +73,23 @@ pub record AnyMemory (tray : List ℕ) (lent : length tray ≡ 521) : Type 0 whe
   -- a summary that is the samples' own stays so
   pub stays_right : ((j : ℕ) → get_or tray j 0 < 4294967296) → state_of tray ≡ walked tray → (call : Call) → state_of (after tray call) ≡ walked (after tray call)
   -- and one that is not becomes so when a sample leaves whose index is not above the kept lowest and below the kept highest
-  pub right_again : ((j : ℕ) → get_or tray j 0 < 4294967296) → (number : ℕ) {s : Sample} → take_answer tray number ≡ taken.Out s
+  pub right_again : ((j : ℕ) → get_or tray j 0 < 4294967296) → (number : ℕ) {s : Sample} → take_answer tray number ≡ Ok s
       → is_between (kept_in tray) s.answer ≡ false → state_of (after tray (Take number)) ≡ walked (after tray (Take number))
   -- or where its numbers are too large for a summary to which one answer more may be added, when any sample comes in or leaves
-  pub too_large_put : ((j : ℕ) → get_or tray j 0 < 4294967296) → is_within (kept_in tray) ≡ false → (number u y : ℕ) → number_of (put_answer tray number u y) ≡ 0
+  pub too_large_put : ((j : ℕ) → get_or tray j 0 < 4294967296) → is_within (kept_in tray) ≡ false → (number u y : ℕ) → refused_by (put_answer tray number u y) ≡ 0
       → state_of (after tray (Put number u y)) ≡ walked (after tray (Put number u y))
-  pub too_large_take : ((j : ℕ) → get_or tray j 0 < 4294967296) → is_within (kept_in tray) ≡ false → (number : ℕ) {s : Sample} → take_answer tray number ≡ taken.Out s
+  pub too_large_take : ((j : ℕ) → get_or tray j 0 < 4294967296) → is_within (kept_in tray) ≡ false → (number : ℕ) {s : Sample} → take_answer tray number ≡ Ok s
       → state_of (after tray (Take number)) ≡ walked (after tray (Take number))
 
 -- memory that is not just 521 numbers, such as a tray of 512 from before #105: 5, whatever is asked, and it is left as it is
 pub record OtherMemory (tray : List ℕ) (other : length tray ≡ 521 → ⊥) : Type 0 where
-  pub put : (number u y : ℕ) → put_answer tray number u y ≡ answer.Refused 5
-  pub take : (number : ℕ) → take_answer tray number ≡ taken.Refused 5
-  pub asked : state_of tray ≡ state.Refused 5
+  pub put : (number u y : ℕ) → put_answer tray number u y ≡ Err NotATray
+  pub take : (number : ℕ) → take_answer tray number ≡ Err NotATray
+  pub asked : state_of tray ≡ Err NotATray
   pub left_alone : (call : Call) → after tray call ≡ tray
 
 -- memory of zeros is the empty tray
 pub record Zeros : Type 0 where
   pub size : length empty_tray ≡ 521
   pub places_too : places_in empty_tray ≡ layout.empty_tray
-  pub says_so : state_of empty_tray ≡ state.Empty
+  pub says_so : state_of empty_tray ≡ Ok None

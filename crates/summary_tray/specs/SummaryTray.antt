@@ -1,22 +1,20 @@
 -- Change request #105: "lowest, highest, sum and counts are held in the tray, and a refresh answers from them alone." A tray is 521 numbers: the 64 places of its
 -- samples (crate tray), and behind them the nine numbers of the summary that it keeps (crate summary_block). The request leaves open how it is kept: that is the
 -- program's choice, and KeptSummary.antt says what holds of it.
-use Rattle.std.specs.Prelude.{ℕ, Bool, cond, ◌&&◌, List, ◌++◌, eqb, length, take, drop, replicate}
-use Rattle.index.specs.declared.answer.Index.TheVariants as answer
-use Rattle.index.specs.Answer.{Answer, number_of}
+use Rattle.std.specs.Prelude.{ℕ, Bool, cond, ◌&&◌, List, ◌++◌, eqb, length, take, drop, replicate, Option, None, Result, Ok, Err}
+use Rattle.index.specs.declared.answer.Index.{Index}
+use Rattle.index.specs.Answer.{Answer}
 use Rattle.index_summary.specs.declared.Summary.{Summary}
 use Rattle.index_summary.specs.Summary.{joined_of, is_between, without_of}
 use Rattle.index_summary.specs.Preconditions.{is_within}
 use Rattle.summary_block.specs.Block.{block_of, summary_from}
+use Rattle.tray_places.specs.declared.samples.Sample.{Sample}
 use Rattle.tray_places.specs.declared.samples.Place.{Place}
 use Rattle.tray_places.specs.Samples.{sample_of}
 use Rattle.tray_places.specs.Places.{held_in}
-use Rattle.tray.specs.declared.Taken.{Taken}
-use Rattle.tray.specs.declared.Taken.TheVariants as taken
-use Rattle.tray.specs.declared.state.State.{State}
-use Rattle.tray.specs.declared.state.State.TheVariants as state
+use Rattle.tray.specs.declared.refusal.Refusal.{Refusal}
+use Rattle.tray.specs.declared.refusal.Refusal.TheVariants.{NotATray}
 use Rattle.tray.specs.Tray as places
-use Rattle.tray.specs.Tray.{not_a_tray}
 use Rattle.tray.specs.State.{state_after, summary_in, state_with}
 
 -- ---- the lent memory
@@ -46,14 +44,14 @@ kept_in tray = summary_from (drop places_size tray)
 
 -- "a refresh answers from them alone": the size of the lent memory is asked for first (no: 5), then what the kept numbers say; "with none held the tray still says
 -- so"
-unfoldable pub state_of : List ℕ → State
-state_of tray = cond (is_tray tray) (state_with (kept_in tray)) (state.Refused not_a_tray)
+unfoldable pub state_of : List ℕ → Result (Option Summary) Refusal
+state_of tray = cond (is_tray tray) (Ok (state_with (kept_in tray))) (Err NotATray)
 
 -- ---- how the summary is kept
 
 -- the summary that a walk over the samples held gives, by #102
 abbrev pub walk_of : List ℕ → Summary
-walk_of places = summary_in (state_after state.Empty (held_in places))
+walk_of places = summary_in (state_after None (held_in places))
 
 -- what is kept where an answer has come in, and these are the places now: the kept summary with one answer more. Where its numbers are too large for that, the
 -- samples are walked
@@ -75,22 +73,27 @@ keeping places t = places ++ block_of t
 -- ---- putting in
 
 -- the answer is that of the places
-unfoldable pub put_answer : List ℕ → ℕ → ℕ → ℕ → Answer
-put_answer tray number u y = cond (is_tray tray) (places.put_answer (places_in tray) number u y) (answer.Refused not_a_tray)
+unfoldable pub put_answer : List ℕ → ℕ → ℕ → ℕ → Result Index Refusal
+put_answer tray number u y = cond (is_tray tray) (places.put_answer (places_in tray) number u y) (Err NotATray)
 
 -- the tray with an answer more, in these places
 abbrev pub tray_with : List ℕ → List ℕ → Answer → List ℕ
 tray_with tray after a = keeping after (with_one (kept_in tray) a after)
 
 -- "A refused call changes nothing"
-unfoldable pub tray_after_put : List ℕ → ℕ → ℕ → ℕ → List ℕ
-tray_after_put tray number u y =
-    cond (eqb (number_of (put_answer tray number u y)) 0)
-    (tray_with tray (places.tray_after_put (places_in tray) number u y) (put_answer tray number u y)) tray
+abbrev pub tray_putting : List ℕ → List ℕ → Result Index Refusal → List ℕ
+tray_putting tray after (Err refusal) = tray
+tray_putting tray after (Ok index) = tray_with tray after (Ok index)
 
--- the same of a place that is stored unless a question refuses it
+unfoldable pub tray_after_put : List ℕ → ℕ → ℕ → ℕ → List ℕ
+tray_after_put tray number u y = tray_putting tray (places.tray_after_put (places_in tray) number u y) (put_answer tray number u y)
+
+-- the same of a place that is stored unless a question refuses it, and what is answered then, of a pair that its own questions do not refuse
 abbrev pub hold_refusal : List ℕ → ℕ → ℕ → ℕ
 hold_refusal tray number pair = places.hold_refusal (places_in tray) number pair
+
+abbrev pub hold_answer : List ℕ → ℕ → Result (Unit {0}) Refusal
+hold_answer tray number = places.hold_answer (places_in tray) number
 
 unfoldable pub tray_holding : List ℕ → ℕ → ℕ → Place → List ℕ
 tray_holding tray number pair place =
@@ -99,13 +102,13 @@ tray_holding tray number pair place =
 
 -- ---- taking out
 
-unfoldable pub take_answer : List ℕ → ℕ → Taken
-take_answer tray number = cond (is_tray tray) (places.take_answer (places_in tray) number) (taken.Refused not_a_tray)
+unfoldable pub take_answer : List ℕ → ℕ → Result Sample Refusal
+take_answer tray number = cond (is_tray tray) (places.take_answer (places_in tray) number) (Err NotATray)
 
 -- the tray with an answer less, in these places
-abbrev pub tray_without : List ℕ → List ℕ → Taken → List ℕ
-tray_without tray after (taken.Refused number) = tray
-tray_without tray after (taken.Out s) = keeping after (without_one (kept_in tray) s.answer after)
+abbrev pub tray_without : List ℕ → List ℕ → Result Sample Refusal → List ℕ
+tray_without tray after (Err refusal) = tray
+tray_without tray after (Ok s) = keeping after (without_one (kept_in tray) s.answer after)
 
 unfoldable pub tray_after_take : List ℕ → ℕ → List ℕ
 tray_after_take tray number = tray_without tray (places.tray_after_take (places_in tray) number) (take_answer tray number)

@@ -5,79 +5,62 @@
 
 mod keep;
 
-ghost use Rattle.std.specs.Prelude.{◌≡◌, length};
-ghost use Rattle.summary_tray.specs.SummaryTray.{tray_size, hold_refusal, tray_holding, put_answer, tray_after_put, take_answer, tray_after_take, state_of};
+ghost use Rattle.std.specs.Prelude.{◌≡◌};
+ghost use Rattle.summary_tray.specs.SummaryTray.{hold_answer, tray_holding, put_answer, tray_after_put, take_answer, tray_after_take, state_of};
 
-use index::Answer;
-use index::answer::{ANSWERED, number_of};
+use index::Index;
 use keep::{keep_with, keep_without, kept};
-use tray::NOT_A_TRAY;
+use summary_block::BLOCK_LENGTH;
 use tray::state::state_with;
-pub use tray::{Place, Sample, State, Summary, Taken};
-use tray_places::answer_from;
+pub use tray::{Place, Refusal, Sample, Summary};
 
 // How many numbers the places are, and how many the tray.
-const PLACES_SIZE: usize = 512;
+const PLACES_SIZE: usize = tray::TRAY_SIZE;
 
-pub const TRAY_SIZE: usize = 521;
+pub const TRAY_SIZE: usize = PLACES_SIZE + BLOCK_LENGTH;
 
-// Stores a place under its number, unless a question refuses it, as `tray::hold` does, and keeps the summary. An inner function, for callers that know the memory
-// to be as large as a tray.
-pub fn hold(tray: &mut [u32], number: u32, pair: u8, place: Place) -> u8
-    requires { length tray.old ≡ tray_size }
-    ensures number { result ≡ hold_refusal tray.old number pair }
-    ensures numbers { tray.new ≡ tray_holding tray.old number pair place }
+// Stores a place under its number, unless the number is held already or no place is free, as `tray::hold` does, and keeps the summary.
+pub fn hold(tray: &mut [u32; TRAY_SIZE], number: u32, place: Place) -> Result<(), Refusal>
+    ensures answer { result ≡ hold_answer tray.old number }
+    ensures numbers { tray.new ≡ tray_holding tray.old number 0 place }
 {
-    let refused = tray::hold(&mut tray[..PLACES_SIZE], number, pair, place);
-    if refused != ANSWERED {
-        return refused;
-    }
-    let answer = answer_from(place.method, place.index, place.lower, place.upper);
-    keep_with(tray, answer);
-    ANSWERED
+    tray::hold(tray.first_chunk_mut().unwrap(), number, place)?;
+    keep_with(tray, place.answer());
+    Ok(())
 }
 
-// Puts a sample in: the pair's answer, or refused by the question of that number.
-pub fn put(tray: &mut [u32], number: u32, u: u32, y: u32) -> Answer
+// Puts a sample in: the pair's index.
+pub fn put(tray: &mut [u32], number: u32, u: u32, y: u32) -> Result<Index, Refusal>
     ensures answer { result ≡ put_answer tray.old number u y }
     ensures numbers { tray.new ≡ tray_after_put tray.old number u y }
 {
-    if tray.len() != TRAY_SIZE {
-        return Answer::Refused(NOT_A_TRAY);
-    }
-    let answer = tray::put(&mut tray[..PLACES_SIZE], number, u, y);
-    if number_of(answer) != ANSWERED {
-        return answer;
-    }
-    keep_with(tray, answer);
-    answer
+    let Some(tray) = tray.as_mut_array::<TRAY_SIZE>() else {
+        return Err(Refusal::NotATray);
+    };
+    let index = tray::put(&mut tray[..PLACES_SIZE], number, u, y)?;
+    keep_with(tray, Ok(index));
+    Ok(index)
 }
 
-// Takes a sample out: the sample, or refused by the question of that number.
-pub fn take(tray: &mut [u32], number: u32) -> Taken
+// Takes a sample out.
+pub fn take(tray: &mut [u32], number: u32) -> Result<Sample, Refusal>
     ensures answer { result ≡ take_answer tray.old number }
     ensures numbers { tray.new ≡ tray_after_take tray.old number }
 {
-    if tray.len() != TRAY_SIZE {
-        return Taken::Refused(NOT_A_TRAY);
-    }
-    let taken = tray::take(&mut tray[..PLACES_SIZE], number);
-    match taken {
-        Taken::Refused(refused) => Taken::Refused(refused),
-        Taken::Out(sample) => {
-            let answer = sample.answer;
-            keep_without(tray, answer);
-            Taken::Out(sample)
-        }
-    }
+    let Some(tray) = tray.as_mut_array::<TRAY_SIZE>() else {
+        return Err(Refusal::NotATray);
+    };
+    let sample = tray::take(&mut tray[..PLACES_SIZE], number)?;
+    keep_without(tray, sample.answer);
+    Ok(sample)
 }
 
-// The state of a tray, by what it keeps.
-pub fn summary(tray: &[u32]) -> State
+// The state of a tray, by what it keeps: none where it is empty.
+pub fn summary(tray: &[u32]) -> Result<Option<Summary>, Refusal>
     ensures { result ≡ state_of tray.now }
 {
-    if tray.len() != TRAY_SIZE {
-        return State::Refused(NOT_A_TRAY);
-    }
-    state_with(kept(tray))
+    let Some(tray) = tray.as_array::<TRAY_SIZE>() else {
+        return Err(Refusal::NotATray);
+    };
+    Ok(state_with(kept(tray)))
 }

@@ -1,38 +1,33 @@
 -- By the size, and what the places answer.
-use native.Mathlib.Omega.{arith}
-use mathlib.Core.Path.{sym, ◌∙◌}
-use Rattle.summary_tray.specs.SummaryTray.{places_in}
-use Rattle.summary_tray.proofs.Parts.{length_places, changed_size, put_small, put_5, put_size, put_refused, put_kept}
+use Prim.Native.Nat.{ℕ}
+use mathlib.Core.Path.{ap, ◌∙◌}
+use mathlib.Core.List.{List}
+use lib.ListN.{length}
+use Rattle.std.proofs.lemmas.Result.{err_from_is_err_and}
+use Rattle.std.specs.Prelude.{Err}
+use Rattle.summary_tray.specs.SummaryTray.{tray_after_put}
+use Rattle.summary_tray.proofs.Parts.{put_5, put_refused, put_kept}
 use Rattle.summary_tray.proofs.put.Goals as goal
+
+pub returns-in_default : goal.returns-in_default
+returns-in_default c =
+    let both = put_5 _ _ c.in_default.ensures.cases _ _ in
+    record { answer = both.0; numbers = both.1 }
+
+pub returns-in_err-index : goal.returns-in_err-index
+returns-in_err-index c =
+    let whole = c.in-Some.ensures.cases in
+    let put = c.in_err-index.ensures in
+    let both = put_refused _ _ (ap length whole.same ∙ whole.long) _ _ put.numbers put.answer in
+    let p = err_from_is_err_and c.from_residual.result c.from_residual.ensures.1 in
+    record {
+      answer = p.1 ∙ ap Err p.2 ∙ (rw whole.same at both.0);
+      numbers = both.1 ∙ ap (λ (l : List ℕ). tray_after_put l c.args.number c.args.u c.args.y) whole.same;
+    }
 
 pub returns : goal.returns
 returns c =
-    let put = c.put-answer.ensures in
-    let both = put_kept _ _ c.if-tray-ne-TRAY_SIZE.false _ _ put.answer put.numbers c.number_of.ensures (omega arith) c.keep_with.ensures in
-    record { answer = both.0; numbers = both.1 }
-
-pub returns-then-tray-ne-TRAY_SIZE : goal.returns-then-tray-ne-TRAY_SIZE
-returns-then-tray-ne-TRAY_SIZE c =
-    let both = put_5 _ _ c.if-tray-ne-TRAY_SIZE.true _ _ in
-    record { answer = both.0; numbers = both.1 }
-
-pub slice_bounds-put-end-2 : goal.slice_bounds-put-end-2
-slice_bounds-put-end-2 c = sym (length_places c.args.tray.now c.if-tray-ne-TRAY_SIZE.false)
-
-pub returns-then-number_of-ne-ANSWERED : goal.returns-then-number_of-ne-ANSWERED
-returns-then-number_of-ne-ANSWERED c =
-    let put = c.put-answer.ensures in
-    let both = put_refused _ _ c.if-tray-ne-TRAY_SIZE.false _ _ put.answer put.numbers c.number_of.ensures (omega arith) in
-    record { answer = both.0; numbers = both.1 }
-
-pub keep_with-requires : goal.keep_with-requires
-keep_with-requires c =
-    let l = c.args.tray.now in
-    let n = c.args.number in
-    let u = c.args.u in
-    let y = c.args.y in
-    let put = c.put-answer.ensures in
-    let size = c.if-tray-ne-TRAY_SIZE.false in (
-      changed_size l size c.put-answer.new.tray (put_size l n size u y put.answer put.numbers),
-      put_small (places_in l) n u y (length_places l size) put.answer (sym c.number_of.ensures ∙ (omega arith)),
-    )
+    let whole = c.in-Some.ensures.cases in
+    let put = c.in_ok-index.ensures in
+    let both = put_kept _ _ (ap length whole.same ∙ whole.long) _ _ put.numbers put.answer c.keep_with.ensures in
+    record { answer = rw whole.same at both.0; numbers = rw whole.same at both.1 }

@@ -1,37 +1,33 @@
 -- By the size, and what the places answer.
-use Prim.Native.Nat.{ℕ, ◌<◌}
-use mathlib.Core.Path.{sym, ◌∙◌}
-use lib.ListN.{get_or}
-use Rattle.laws.specs.Bits.{span32}
-use Rattle.summary_tray.proofs.Parts.{length_places, changed_size, take_small, take_5, take_size, take_refused, take_kept}
-use borrow.Author.Rules.{rules}
+use Prim.Native.Nat.{ℕ}
+use mathlib.Core.Path.{ap, ◌∙◌}
+use mathlib.Core.List.{List}
+use lib.ListN.{length}
+use Rattle.std.proofs.lemmas.Result.{err_from_is_err_and}
+use Rattle.std.specs.Prelude.{Err}
+use Rattle.summary_tray.specs.SummaryTray.{tray_after_take}
+use Rattle.summary_tray.proofs.Parts.{take_5, take_refused, take_kept}
 use Rattle.summary_tray.proofs.take.Goals as goal
 
-pub returns-then-tray-ne-TRAY_SIZE : goal.returns-then-tray-ne-TRAY_SIZE
-returns-then-tray-ne-TRAY_SIZE c =
-    let both = take_5 _ _ c.if-tray-ne-TRAY_SIZE.true in
+pub returns-in_default : goal.returns-in_default
+returns-in_default c =
+    let both = take_5 _ _ c.in_default.ensures.cases in
     record { answer = both.0; numbers = both.1 }
 
-pub slice_bounds-take-end-2 : goal.slice_bounds-take-end-2
-slice_bounds-take-end-2 c = sym (length_places c.args.tray.now c.if-tray-ne-TRAY_SIZE.false)
+pub returns-in_err-sample : goal.returns-in_err-sample
+returns-in_err-sample c =
+    let whole = c.in-Some.ensures.cases in
+    let took = c.in_err-sample.ensures in
+    let both = take_refused _ _ (ap length whole.same ∙ whole.long) took.numbers took.answer in
+    let p = err_from_is_err_and c.from_residual.result c.from_residual.ensures.1 in
+    record {
+      answer = p.1 ∙ ap Err p.2 ∙ (rw whole.same at both.0);
+      numbers = both.1 ∙ ap (λ (l : List ℕ). tray_after_take l c.args.number) whole.same;
+    }
 
-pub keep_without-requires : goal.keep_without-requires
-keep_without-requires c =
-    let l = c.args.tray.now in
-    let n = c.args.number in
-    let took = c.take-taken.ensures in
-    let size = c.if-tray-ne-TRAY_SIZE.false in
-    let small : (j : ℕ) → get_or l j 0 < span32 = λ j. search rules in
-    (changed_size l size c.take-taken.new.tray (take_size l n size took.answer took.numbers), take_small l n size small (sym took.answer ∙ c.in-Out.is))
-
-pub returns-in-Refused : goal.returns-in-Refused
-returns-in-Refused c =
-    let took = c.take-taken.ensures in
-    let both = take_refused _ _ c.if-tray-ne-TRAY_SIZE.false took.answer took.numbers c.in-Refused.is in
-    record { answer = both.0; numbers = both.1 }
-
-pub returns-in-Out : goal.returns-in-Out
-returns-in-Out c =
-    let took = c.take-taken.ensures in
-    let both = take_kept _ _ c.if-tray-ne-TRAY_SIZE.false took.answer took.numbers c.in-Out.is c.keep_without.ensures in
-    record { answer = both.0; numbers = both.1 }
+pub returns : goal.returns
+returns c =
+    let whole = c.in-Some.ensures.cases in
+    let took = c.in_ok-sample.ensures in
+    let both = take_kept _ _ (ap length whole.same ∙ whole.long) took.numbers took.answer c.keep_without.ensures in
+    record { answer = rw whole.same at both.0; numbers = rw whole.same at both.1 }

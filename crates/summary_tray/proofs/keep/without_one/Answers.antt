@@ -4,13 +4,12 @@ use Rattle.summary_tray.proofs.Parts.{says_within, less_from_kept, less_from_wal
 use Rattle.summary_tray.proofs.keep.without_one.Goals as goal
 
 pub without-requires : goal.without-requires
-without-requires c =
-    (says_within _ c.args.answer (sym c.says_rest.ensures ∙ c.if-says_rest.true), c.requires.1)
+without-requires c = says_within _ c.args.answer (sym c.says_rest.ensures ∙ c.if-says_rest.true)
 
 pub returns-then-says_rest : goal.returns-then-says_rest
 returns-then-says_rest c =
     less_from_kept _ _ c.kept-t.ensures (sym c.says_rest.ensures ∙ c.if-says_rest.true) c.without.ensures
 
-pub returns : goal.returns
-returns c =
+pub returns-else-says_rest : goal.returns-else-says_rest
+returns-else-says_rest c =
     less_from_walk _ _ c.kept-t.ensures (sym c.says_rest.ensures ∙ c.if-says_rest.false) c.found.ensures
