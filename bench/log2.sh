@@ -14,7 +14,7 @@ fi
 
 work=$(mktemp -d)
 trap 'rm -rf "$work"' EXIT
-mkdir -p "$work/crates/log2_c/src" "$work/crates/log2_c/proofs/log2_all"
+mkdir -p "$work/crates/log2_c/src"
 (cd "$root" && find crates/laws crates/logarithm -path 'crates/*/out' -prune -o -type f -exec cp --parents -t "$work" {} +)
 printf 'laws:\nlogarithm: laws\nlog2_c staticlib: logarithm\n' >"$work/crates.txt"
 
@@ -22,52 +22,27 @@ cat >"$work/crates/log2_c/src/lib.rt" <<'RATTLE'
 // The logarithm, for C.
 #![tactic(auto)]
 
-ghost use Rattle.logarithm.specs.Preconditions.{LentLogarithms};
-
-use logarithm::LOG_TABLE_SIZE;
-
 const UNIT: u64 = 281474976710656;
 
 // A value out of range has the answer 0.
-fn log2_or_0(first: &[u32; LOG_TABLE_SIZE], second: &[u32; LOG_TABLE_SIZE], x: u64) -> u64
-    requires { LentLogarithms first.now second.now }
-{
+fn log2_or_0(x: u64) -> u64 {
     if x < 1 {
         return 0;
     }
     if x < 2 * UNIT {
-        return logarithm::log2_scaled(first, second, x);
+        return logarithm::log2_scaled(x);
     }
     0
 }
 
-// The tables are copied once and lent for all values.
+// One call for all values.
 #[unsafe(no_mangle)]
 pub extern "C" fn log2_all(xs: &[u64], rs: &mut [u64]) {
-    let first = logarithm::first_table();
-    let second = logarithm::second_table();
-    let mut i: usize = 0;
-    while i < xs.len() {
-        if i >= rs.len() {
-            return;
-        }
-        rs[i] = log2_or_0(&first, &second, xs[i]);
-        i += 1;
+    for (r, x) in rs.iter_mut().zip(xs) {
+        *r = log2_or_0(*x);
     }
 }
 RATTLE
-
-cat >"$work/crates/log2_c/proofs/log2_all/Invariants.antt" <<'ANTT'
--- The index stays within the values, and the results keep their number.
-use Rattle.std.specs.Prelude.{◌≡◌, ◌≤◌, ◌-◌, length}
-use Rattle.log2_c.proofs.log2_all.Given as goal
-
-abbrev pub invariant-loop-i : goal.invariant-loop-i
-invariant-loop-i l = (l.i ≤ length l.xs) × (length l.rs ≡ length l.fn.rs)
-
-abbrev pub decreases-loop-i : goal.decreases-loop-i
-decreases-loop-i l = length l.xs - l.i
-ANTT
 
 (cd "$work/crates/log2_c" && rt lib) >"$work/log" 2>&1 || { cat "$work/log" >&2; exit 1; }
 archive=$work/crates/log2_c/out/liblog2_c.a
