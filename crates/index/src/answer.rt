@@ -60,8 +60,8 @@ pub fn method_of(answer: Answer) -> u8
     }
 }
 
-// The index, 0 where the pair is refused; 64 bits hold it whatever the answer is. For callers that hold an answer and no
-// record.
+// The index; 64 bits hold it whatever the answer is. It is 0 where the pair is refused, as in its result ("What does not apply is zero"), so that sums need
+// no case for it.
 pub fn index_of(answer: Answer) -> i64
     ensures value { result ≡ index_of answer }
     ensures bound { mag result < span32 }

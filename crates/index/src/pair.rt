@@ -11,6 +11,8 @@ use crate::questions::{Viscosities, ask};
 use reference::{Located, ReferenceOil};
 
 // The index of a pair that passes the questions. Procedure B needs no L, so H comes first; both are found at one place.
+// Laid out where it is called: a sheet asks it for every pair, and an oil at or above H needs little else.
+#[inline(always)]
 fn index_passed(pair: Viscosities) -> Index
     requires { Passes pair.u pair.y }
     ensures { result ≡ index_passed pair.u pair.y }
@@ -29,7 +31,8 @@ fn index_passed(pair: Viscosities) -> Index
     Index::A(rounded_a(l, h, units))
 }
 
-// The pair operation: the answer to any two numbers.
+// The pair operation: the answer to any two numbers. u and y are plain numbers until the questions are asked, as they are in a sheet and in C.
+#[inline(always)]
 pub fn answer_pair(u: u32, y: u32) -> Answer
     ensures value { result ≡ answer_of u y }
     ensures right { RightAnswer u y result }

@@ -54,7 +54,8 @@ fn fractions_of(oil: Oil) -> Fractions
     Fractions { lower, upper }
 }
 
-// Procedure B.
+// Procedure B: a function of its own in the machine code, so that an oil at or above H does not pay for it.
+#[inline(never)]
 pub fn procedure_b(oil: Oil) -> ByB
     requires { OilBelowH oil }
     ensures { result ≡ answer_by_b oil.u oil.y }

@@ -13,7 +13,8 @@ use index::{Answer, Index};
 pub use less::magnitude;
 use shown_index::Mark;
 
-// Every index is below the one and above the other: 32 bits hold it, with sign or without.
+// Every index is below the one and above the other: 32 bits hold it, with sign or without. They are the lowest and the highest of no answers: an Option for
+// each would be no plainer, since each answer that is joined would ask it.
 const ABOVE_ALL: i64 = 4_294_967_296;
 
 const BELOW_ALL: i64 = -4_294_967_297;

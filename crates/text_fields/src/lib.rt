@@ -36,7 +36,7 @@ pub fn decimal(n: u32) -> ArrayString<NUMBER_WIDTH>
     text
 }
 
-// A viscosity of x thousandths, with three decimals.
+// A viscosity of x thousandths, with three decimals: digit by digit, since the library's digits leave out zeros at the front.
 #[tactic(auto, using(crate::proofs::Digits::digits_of_whole), unfolding(crate::specs::Fields::viscosity))]
 pub fn viscosity(x: u32) -> ArrayString<VISCOSITY_WIDTH>
     ensures { result.bytes ≡ viscosity x }
@@ -50,7 +50,7 @@ pub fn viscosity(x: u32) -> ArrayString<VISCOSITY_WIDTH>
     text
 }
 
-// An index, with a minus sign where it is below zero.
+// An index, with a minus sign where it is below zero. Of one type with `decimal` it would be no plainer: its width and its definition are others.
 #[tactic(auto, using(crate::proofs::Digits::signed_as_printed))]
 pub fn signed_decimal(index: i32) -> ArrayString<INDEX_WIDTH>
     ensures { result.bytes ≡ signed_decimal index }

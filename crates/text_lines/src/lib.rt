@@ -42,7 +42,7 @@ pub fn first_line(n: u32) -> ArrayString<FIRST_LINE_WIDTH>
 pub fn refused_line(number: u8) -> ArrayString<REFUSED_LINE_WIDTH>
     ensures { result.bytes ≡ refused_line number }
 {
-    ended(worded("sheet refused", &decimal(number as u32)))
+    ended(worded("sheet refused", &decimal(u32::from(number))))
 }
 
 // The outcome of a pair, by the fields of its record. The method is a byte of the sheet's format, which may hold any number; one that is none of the
@@ -52,7 +52,7 @@ fn outcome_by(number: u8, method: u8, index: i32) -> ArrayString<OUTCOME_WIDTH>
     ensures { result.bytes ≡ outcome_by number method index }
 {
     match method {
-        METHOD_REFUSED => worded("refused", &decimal(number as u32)),
+        METHOD_REFUSED => worded("refused", &decimal(u32::from(number))),
         METHOD_A => worded("A", &signed_decimal(index)),
         METHOD_B_SETTLED => worded("B", &signed_decimal(index)),
         _ => worded("B~", &signed_decimal(index)),

@@ -65,7 +65,7 @@ pub extern "C" fn vi_constant_40(viscosity: u32, density: u32, row: &mut [i32]) 
     constant_row::fill_row(Temperature::At40, viscosity, density, row)
 }
 
-// The same from the viscosity at 100 °C.
+// The same from the viscosity at 100 °C: C calls each by its name.
 #[unsafe(no_mangle)]
 pub extern "C" fn vi_constant_100(viscosity: u32, density: u32, row: &mut [i32]) -> u32
     ensures number { result ≡ row_number row.old At100 viscosity density }
