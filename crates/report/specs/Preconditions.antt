@@ -1,4 +1,4 @@
--- What an inner function asks of its callers beside room in the buffer.
+-- What an inner function asks of its callers beside an empty text.
 use Rattle.std.specs.Prelude.{ℕ, ◌≤◌, List, length}
 use Rattle.sheet.specs.Sheet.{header_size, most_pairs, count_of, named_blocks}
 use Rattle.sheet.specs.Preconditions.{BlocksWithin}
