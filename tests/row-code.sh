@@ -1,8 +1,8 @@
 #!/usr/bin/env bash
-# Change request #103: no conditional jump is left in the machine code of the place. The archive lays that code out once, inside answer_pair, which vi_pair
-# and vi_sheet call. It begins with the first instruction that has a constant by which crates/reference/src/row.rt counts the ranges left; from there to the
-# first jump, call or return all of it must have been done, to the share of the way. No jump may lead into it, nothing in it be chosen by a comparison, and no
-# second place come after it. Then the same is asked of edited copies.
+# Change request #103: no conditional jump is left in the machine code of the place. The archive lays that code out inside vi_pair and vi_sheet. It begins
+# with the first instruction that has a constant by which crates/reference/src/row.rt counts the ranges left; from there to the first jump, call or return all
+# of it must have been done, to the share of the way. No jump may lead into it, nothing in it be chosen by a comparison, and no second place come after it.
+# Then the same is asked of edited copies.
 set -u
 cd "$(dirname "$0")/.." || exit 1
 work=$(mktemp -d)
@@ -71,29 +71,29 @@ judge() {
 
 objdump -d -M intel --no-show-raw-insn "$archive" >"$work/code"
 said=$(judge "$work/code")
-[ "$said" = "answer_pair ok" ] || miss "the archive: ${said//$'\n'/; }"
+[ "$said" = "vi_pair ok"$'\n'"vi_sheet ok" ] || miss "the archive: ${said//$'\n'/; }"
 
-# bites WANTED PROGRAM: of a copy edited by this sed program within answer_pair, judge says WANTED of it, and nothing where there is no place.
+# bites WANTED PROGRAM: of a copy edited by this sed program within vi_sheet, judge says WANTED of it, and nothing where there is no place.
 copies=0
 bites() {
-    sed "/answer_pair>:/,/^\$/$2" "$work/code" >"$work/copy"
+    sed "/<vi_sheet>:/,/^\$/$2" "$work/code" >"$work/copy"
     cmp -s "$work/code" "$work/copy" && miss "nothing was edited by $2"
-    said=$(judge "$work/copy" | sed -n 's/^answer_pair //p')
+    said=$(judge "$work/copy" | sed -n 's/^vi_sheet //p')
     [ "$said" = "$1" ] || miss "of a copy edited by $2: '$said'"
     copies=$((copies + 1))
 }
-jump='    ffff:\tjb     ffff <answer_pair+0xffff>'
+jump='    ffff:\tjb     ffff <vi_sheet+0xffff>'
 bites 'a jump before the ranges are counted' "s/.*$third\\]\$/&\\n$jump/"
 bites 'a jump before the place is found' "s/.*,$apart\$/$jump\\n&/"
 bites 'a jump before the row is found' "s/.*imul .*,$way\$/$jump\\n&/"
 bites 'a jump before the share is found' "s/.*imul .*,$way\$/&\\n$jump/"
 bites 'something is chosen by a comparison' "s/.*,$apart\$/    ffff:\\tcmovb  edx,r8d\\n&/"
 bites 'something is chosen by a comparison' "s/.*,$apart\$/    ffff:\\tsbb    edx,edx\\n&/"
-row=$(awk -v way="$way" '/answer_pair>:/ { on = 1 } on && $2 == "imul" && $0 ~ ("," way "$") { sub(/:/, "", $1); print $1; exit }' "$work/code")
-bites 'a jump leads into it' "s/\\(\\tj[a-z]*  *\\)[0-9a-f]* <.*answer_pair.*/\\1$row <answer_pair>/"
+row=$(awk -v way="$way" '/<vi_sheet>:/ { on = 1 } on && $2 == "imul" && $0 ~ ("," way "$") { sub(/:/, "", $1); print $1; exit }' "$work/code")
+bites 'a jump leads into it' "s/\\(\\tj[a-z]*  *\\)[0-9a-f]* <vi_sheet.*/\\1$row <vi_sheet>/"
 bites 'a jump to an unknown place' "s/\\tje .*/\\tjmp    QWORD PTR [rax*8]/"
 bites 'a second place' "s/.*imul .*,$per_millionth\$/&\\n    ffff:\\tlea    edx,[rax-$third]/"
 bites '' "s/$second\\|$third/0x0/"
 
-[ "$bad" -eq 0 ] && echo "row code: in answer_pair no jump from the first instruction of the place to the share; $copies edited copies are told"
+[ "$bad" -eq 0 ] && echo "row code: in vi_pair and in vi_sheet no jump from the first instruction of the place to the share; $copies edited copies are told"
 exit "$bad"
