@@ -1,7 +1,7 @@
 -- A tray as its places and its kept numbers: what is read of each, and what is left where a call has changed the places and the summary is kept anew.
 use Prim.Native.Nat.{ℕ, ◌<◌}
 use mathlib.Core.Path.{◌≡◌, refl, sym, ap, ap₂, ◌∙◌}
-use mathlib.Core.Bool.{true, false}
+use mathlib.Core.Bool.{true}
 use mathlib.Core.List.{List, ◌++◌}
 use native.Mathlib.Omega.{arith}
 use borrow.Author.Tests.{eq-eqb, ne_eqb}
@@ -18,7 +18,7 @@ use Rattle.index.specs.Questions.{refusal}
 use Rattle.index.specs.Answer.{Answer, RightAnswer}
 use Rattle.index.specs.ChosenAnswer.{answer_of}
 use Rattle.index_summary.specs.declared.Summary.{Summary}
-use Rattle.index_summary.specs.Summary.{joined_of, is_between, without_of}
+use Rattle.index_summary.specs.Summary.{is_between}
 use Rattle.index_summary.specs.Preconditions.{most, Within, is_within}
 use Rattle.index_summary.proofs.OneLess.{passes}
 use Rattle.answer_record.proofs.Stores.{length_stored}
@@ -36,7 +36,7 @@ use Rattle.tray.proofs.EveryList.{every_call}
 use Rattle.tray.proofs.Questions.{refusal_some, answered_err, answered_ok}
 use Rattle.tray.proofs.Questions as questions
 use Rattle.tray.proofs.Steps.{refused_33, take_answered, call_step}
-use Rattle.summary_tray.specs.SummaryTray.{places_size, tray_size, places_in, kept_in, walk_of, with_one, says_rest, without_one, put_answer, tray_with, tray_putting, tray_after_put, hold_refusal, hold_answer, tray_holding, take_answer, tray_without, tray_after_take}
+use Rattle.summary_tray.specs.SummaryTray.{places_size, tray_size, places_in, kept_in, with_one, says_rest, without_one, put_answer, tray_with, tray_putting, tray_after_put, hold_refusal, hold_answer, tray_holding, take_answer, tray_without, tray_after_take}
 
 -- ---- the parts of the lent memory
 
@@ -63,25 +63,6 @@ module _ (l : List ℕ) (h : length l ≡ tray_size) where
 
     pub kept_without : (s : Sample) → places_in changed ++ block_of (without_one (kept_in changed) s.answer (places_in changed)) ≡ tray_without l p (Ok s)
     kept_without s = ap₂ (λ (q : List ℕ) (t : Summary). q ++ block_of (without_one t s.answer q)) front behind
-
--- ---- how the summary is kept, as the code finds it
-
-module _ {kept kept' : Summary} (a : Answer) (q : List ℕ) {r : Summary} (is : kept' ≡ kept) where
-  pub from_kept : is_within kept' ≡ true → r ≡ joined_of kept' a → r ≡ with_one kept a q
-  unfolding with_one
-  from_kept e f = rw (rw is at e) (rw is at f)
-
-  pub from_walk : is_within kept' ≡ false → r ≡ walk_of q → r ≡ with_one kept a q
-  unfolding with_one
-  from_walk e f = rw (rw is at e) f
-
-  pub less_from_kept : says_rest kept' a ≡ true → r ≡ without_of kept' a → r ≡ without_one kept a q
-  unfolding without_one
-  less_from_kept e f = let yes : says_rest kept a ≡ true = rw is at e in rw yes (rw is at f)
-
-  pub less_from_walk : says_rest kept' a ≡ false → r ≡ walk_of q → r ≡ without_one kept a q
-  unfolding without_one
-  less_from_walk e f = let no : says_rest kept a ≡ false = rw is at e in rw no f
 
 -- ---- the numbers of the places, the sample that is taken out, and what the kept numbers may say
 

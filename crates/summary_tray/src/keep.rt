@@ -32,6 +32,7 @@ fn keep(tray: &mut [u32; TRAY_SIZE], t: Summary)
 }
 
 // The summary of a tray in which an answer has come in that is not kept yet.
+#[tactic(auto, using(index_summary::proofs::OneLess::passes), unfolding(crate::specs::SummaryTray::with_one))]
 fn with_one(tray: &[u32; TRAY_SIZE], answer: Answer) -> Summary
     ensures { result ≡ with_one (kept_in tray.now) answer (places_in tray.now) }
 {
@@ -51,6 +52,7 @@ fn says_rest(t: Summary, answer: Answer) -> bool
 }
 
 // The summary of a tray from which an answer has left that is still kept.
+#[tactic(auto, using(crate::proofs::Parts::says_within), unfolding(crate::specs::SummaryTray::without_one))]
 fn without_one(tray: &[u32; TRAY_SIZE], answer: Answer) -> Summary
     ensures { result ≡ without_one (kept_in tray.now) answer (places_in tray.now) }
 {

@@ -56,6 +56,7 @@ pub fn take(tray: &mut [u32], number: u32) -> Result<Sample, Refusal>
 }
 
 // The state of a tray, by what it keeps: none where it is empty.
+#[tactic(auto, unfolding(crate::specs::SummaryTray::state_of))]
 pub fn summary(tray: &[u32]) -> Result<Option<Summary>, Refusal>
     ensures { result ≡ state_of tray.now }
 {
