@@ -4,10 +4,8 @@ use mathlib.Core.Path.{◌≡◌, ap}
 use native.Mathlib.Omega.{arith}
 use borrow.Author.Tests.{le-ltb, lt-ltb}
 use lib.IntN.{ℤ, pos, negsuc}
-use lib.Signed.{mag}
 use mir.Syntax.{w32}
-use mir.Val.{of_z, to_z, SFits}
-use mir.ValLaws.{to_z-of_z}
+use mir.Val.{SFits}
 use Rattle.laws.specs.Bits.{span32, half32}
 use Rattle.answer_record.specs.Bytes.{twos_complement, signed_of}
 
@@ -23,7 +21,3 @@ signed_back (negsuc n) f =
 pub twos_complement_fits : (z : ℤ) → SFits w32 z → twos_complement z < span32
 twos_complement_fits (pos n) f = let small : n < half32 = f.sfits in omega arith
 twos_complement_fits (negsuc n) f = omega arith
-
--- a number with sign that was taken out of an enum is handed on as its bits read back
-pub read_back : (k : ℤ) → mag k < half32 → twos_complement (to_z w32 (of_z w32 k)) ≡ twos_complement k
-read_back k h = ap twos_complement (to_z-of_z w32 k (record { sfits = h }))

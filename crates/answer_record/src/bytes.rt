@@ -4,7 +4,9 @@ ghost use Rattle.answer_record.specs.Bytes.{number_size, number_at, bytes_of, tw
 
 use crate::layout::NUMBER_SIZE;
 
-// The 32-bit number at `at`. An inner function, for callers that know its four bytes to be there.
+// The 32-bit number at `at`. An inner function, for callers that know its four bytes to be there. It has bytes and an offset, and `store_number` too: C lends
+// the sheet and the record, document 01 says at which byte of them a number begins, and it is read and stored there, without a copy of what is lent.
+#[tactic(auto, using(crate::proofs::Numbers::joined_by_library), unfolding(crate::specs::Bytes::number_at))]
 pub fn number_at(bytes: &[u8], at: usize) -> u32
     requires { at + number_size ≤ length bytes.now }
     ensures { result ≡ number_at bytes.now at }
@@ -20,6 +22,7 @@ pub fn twos_complement(x: i32) -> u32
 }
 
 // Stores x at `at`, least significant byte first.
+#[tactic(auto, using(crate::proofs::Numbers::bytes_by_library, crate::proofs::Stores::copied), unfolding(crate::specs::Bytes::bytes_of))]
 pub fn store_number(to: &mut [u8], at: usize, x: u32)
     requires { at + number_size ≤ length to.old }
     ensures { to.new ≡ stored to.old at (bytes_of x) }

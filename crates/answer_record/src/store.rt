@@ -63,7 +63,8 @@ impl From<Answer> for Record {
     }
 }
 
-// Stores the fields of a record, which begins at `at`. An inner function, for callers that know its bytes to be there.
+// Stores the fields of a record, which begins at `at`. An inner function, for callers that know its bytes to be there: those of the sheet or the record that C
+// lends, in which document 01 says where each field stands.
 pub fn store_record(to: &mut [u8], at: usize, fields: Record)
     requires { at + result_size ≤ length to.old }
     ensures { to.new ≡ stored to.old at (laid_out fields) }
