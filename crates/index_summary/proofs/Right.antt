@@ -77,9 +77,9 @@ alone_right x = record {
 }
 
 -- one answer added to nothing
-min_nothing : (i : ℤ) → mag i < span32 → int_min above_all i ≡ i
-min_nothing (pos n) h = omega (arith, ints, clamps)
-min_nothing (negsuc n) h = refl
+lesser_nothing : (i : ℤ) → mag i < span32 → int_min above_all i ≡ i
+lesser_nothing (pos n) h = omega (arith, ints, clamps)
+lesser_nothing (negsuc n) h = refl
 
 max_nothing : (i : ℤ) → mag i < span32 → int_max below_all i ≡ i
 max_nothing (pos n) h = refl
@@ -87,7 +87,7 @@ max_nothing (negsuc n) h = omega (arith, ints, clamps)
 
 pub joined_nothing : (x : Answer) → mag (index_of x) < span32 → joined_of nothing x ≡ alone_of x
 unfolding joined_of alone_of
-joined_nothing x h = grind (arith, min_nothing, max_nothing, +ℤ_idl, zero-add)
+joined_nothing x h = grind (arith, lesser_nothing, max_nothing, +ℤ_idl, zero-add)
 
 pub joined_right : (xs : List Answer) (t : Summary) (y : Answer) → SummaryOf xs t → SummaryOf (xs ++ (y ∷ [])) (joined_of t y)
 unfolding joined_of
