@@ -22,9 +22,14 @@ numbers_back t w =
       words_back t.sum (omega (arith, w.sum)),
     )
 
+-- nine numbers whose fields count none are read as the summary of none, whatever else they say
+pub read_none : (block : List ℕ) {t : Summary} → t ≡ fields_from block → is_of_none t ≡ true → summary_from block ≡ nothing
+unfolding summary_from
+read_none block {t} e h = rw h at (ap read (sym e))
+
 none_kept : summary_from block_of_none ≡ nothing
-unfolding summary_from signed_of_words
-none_kept = refl
+unfolding signed_of_words
+none_kept = read_none block_of_none refl refl
 
 block_back : (t : Summary) → Within most t → (is_of_none t ≡ true → t ≡ nothing) → summary_from (block_of t) ≡ t
 unfolding block_of summary_from
@@ -36,11 +41,10 @@ length_block t = by_test (is_of_none t) (λ e. rw e) (λ e. rw e)
 
 pub none_is_nothing : (block : List ℕ) → is_of_none (summary_from block) ≡ true → summary_from block ≡ nothing
 unfolding summary_from
-none_is_nothing block h = by_test (is_of_none (fields_from block)) (λ e. rw e) (λ e. both_ways (rw e at h) e)
+none_is_nothing block h = by_test (is_of_none (fields_from block)) (read_none block refl) (λ e. both_ways (rw e at h) e)
 
 counts_none : (block : List ℕ) → get_or block 6 0 ≡ 0 → get_or block 7 0 ≡ 0 → get_or block 8 0 ≡ 0 → summary_from block ≡ nothing
-unfolding summary_from
-counts_none block a b c = rw (a, b, c)
+counts_none block a b c = read_none block refl (rw (a, b, c))
 
 pub every_block : EveryBlock
 every_block = record { nine = length_block; back = block_back; zeros = none_kept; none = counts_none }
