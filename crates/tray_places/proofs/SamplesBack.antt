@@ -1,5 +1,5 @@
 -- A sample laid out as the numbers of a place, and read back from them.
-use Prim.Native.Nat.{ℕ, ◌+◌, ◌*◌, ◌≤◌, ◌<◌}
+use Prim.Native.Nat.{ℕ, ◌+◌, ◌*◌, ◌≤◌}
 use mathlib.Core.Path.{◌≡◌, refl, sym, ap, ◌∙◌, subst}
 use mathlib.Core.Bool.{true}
 use mathlib.Core.List.{List}
@@ -22,18 +22,10 @@ use Rattle.index.proofs.Right.{right}
 use Rattle.answer_record.specs.Bytes.{twos_complement, stored}
 use Rattle.answer_record.proofs.Signed.{signed_back}
 use Rattle.tray_places.specs.declared.samples.Sample.{Sample}
-use Rattle.tray_places.specs.declared.samples.Place.{Place}
 use Rattle.tray_places.specs.Samples.{place_of, answer_from, sample_of}
 use Rattle.tray_places.specs.Places.{place_size, numbers_of, is_held, sample_at}
 use Rattle.tray_places.proofs.Kept.{place_there, held_there}
 use Rattle.tray_places.proofs.Same.{mark_method}
-
--- a place made of its fields, as the code makes it
-pub placed : (s : Sample) {method index lower upper : ℕ} → method ≡ method_of s.answer → index ≡ twos_complement (index_of s.answer)
-    → lower ≡ lower_of s.answer → upper ≡ upper_of s.answer
-    → ◌≡◌ {A = Place} (record { method = method; number = s.number; u = s.u; y = s.y; index = index; lower = lower; upper = upper }) (place_of s)
-unfolding place_of
-placed s m i l p = rw (m, i, l, p)
 
 marked_back : (b : ByB) (m : Mark) → b.mark ≡ m → answer_from (method_of (Ok (B b))) b.index b.lower b.upper ≡ Ok (B b)
 unfolding answer_from

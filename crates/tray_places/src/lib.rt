@@ -33,12 +33,14 @@ const LOWER_AT: usize = 5;
 
 const UPPER_AT: usize = 6;
 
-// The method of a free place, and the number that no field has taken yet.
+// The method of a free place, and the number that no field has taken yet. They are plain numbers, no cases of an enum: C lends the memory, memory of zeros is the
+// empty tray, and any numbers in it are some tray.
 const FREE: u32 = 0;
 
 const SPARE: u32 = 0;
 
 // The places of a tray, each as its eight numbers.
+#[tactic(auto, using(crate::proofs::Searches::all_pieces))]
 pub fn places_in(tray: &[u32; TRAY_SIZE]) -> &[[u32; PLACE_SIZE]]
     ensures { result.now ≡ places_in tray.now }
 {
@@ -66,6 +68,7 @@ impl From<&[u32; PLACE_SIZE]> for Place {
 impl From<Place> for [u32; PLACE_SIZE] {
     ghost from_gives = { λ place numbers. numbers ≡ numbers_of place };
 
+    #[tactic(auto, unfolding(crate::specs::Places::numbers_of))]
     fn from(place: Place) -> [u32; PLACE_SIZE] {
         [
             place.method,
@@ -81,6 +84,7 @@ impl From<Place> for [u32; PLACE_SIZE] {
 }
 
 // Stores the numbers of a place in place i. An inner function, for callers that know the place to be there; so is the next.
+#[tactic(auto, using(crate::proofs::Kept::numbers_stored))]
 pub fn store_place(tray: &mut [u32], i: usize, place: Place)
     requires { place_size * i + place_size ≤ length tray.old }
     ensures { tray.new ≡ stored tray.old (place_size * i) (numbers_of place) }
@@ -91,6 +95,7 @@ pub fn store_place(tray: &mut [u32], i: usize, place: Place)
 }
 
 // Frees place i.
+#[tactic(auto, unfolding(answer_record::specs::Bytes::stored, crate::specs::Places::freed))]
 pub fn free(tray: &mut [u32], i: usize)
     requires { place_size * i + place_size ≤ length tray.old }
     ensures { tray.new ≡ stored tray.old (place_size * i) freed }

@@ -40,6 +40,7 @@ fn mark_from(method: u32) -> Mark
 
 impl Place {
     // The answer that a place says.
+    #[tactic(auto, using(crate::proofs::Signs::read_signed), unfolding(crate::specs::Samples::answer_from))]
     pub fn answer(self) -> Answer
         ensures { result ≡ answer_from self.method self.index self.lower self.upper }
     {
@@ -73,6 +74,7 @@ impl From<Place> for Sample {
 impl From<Sample> for Place {
     ghost from_gives = { λ sample place. place ≡ place_of sample };
 
+    #[tactic(auto, unfolding(crate::specs::Samples::place_of))]
     fn from(sample: Sample) -> Place {
         let fields = Record::from(sample.answer);
         Place {
