@@ -5,19 +5,19 @@ use mathlib.Core.Bool.{Bool, false, cond}
 use mathlib.Core.List.{List}
 use native.Mathlib.Omega.{arith}
 use native.Mathlib.Nat.{le_of_eq}
-use borrow.Author.Tests.{lt-ltb, le-ltb, eq-eqb, ne_eqb, eqb-true}
+use borrow.Author.Tests.{lt-ltb, le-ltb, eq-eqb, ne_eqb}
 use lib.Dec.{eqb, ltb}
 use lib.ListN.{length}
 use Rattle.std.specs.Prelude.{Result, Ok, Err}
 use Rattle.laws.specs.Questions.{ask}
-use Rattle.laws.proofs.Order.{by_test, by_order}
+use Rattle.laws.proofs.Order.{by_order}
 use Rattle.reference.specs.declared.refusal.Refusal.TheVariants.{ThinAt100, ThickAt100, ThickAt40, NotThicker}
 use Rattle.reference.specs.declared.refusal.Refusal as of_pair
 use Rattle.reference.specs.Refusal as pair
 use Rattle.reference.proofs.Refusals.{numbered_refusals}
 use Rattle.index.specs.declared.answer.Index.{Index}
 use Rattle.index.specs.Questions.{refusal}
-use Rattle.index.specs.Answer.{Answer, number_of, RightAnswer}
+use Rattle.index.specs.Answer.{RightAnswer}
 use Rattle.index.specs.ChosenAnswer.{answer_of}
 use Rattle.index.proofs.QuestionOrder.{number_most}
 use Rattle.answer_record.specs.Bytes.{stored}
@@ -32,9 +32,6 @@ use Rattle.tray.specs.Tray.{not_a_tray, held_refusal, full_refusal, not_held_ref
 
 some : (k : ℕ) → 0 < k → eqb k 0 ≡ false
 some k p = ne_eqb k 0 (λ (z : k ≡ 0). omega arith)
-
-pub above_zero : (k : ℕ) → (k ≡ 0 → ⊥) → 0 < k
-above_zero k h = by_order 0 k (λ p. p) (λ z. absurd (h (omega arith)))
 
 -- ---- a refusal and its number
 

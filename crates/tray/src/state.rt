@@ -31,6 +31,7 @@ pub fn walk(tray: &[u32; TRAY_SIZE]) -> Summary
 }
 
 // The state with that summary: none where nothing is counted.
+#[tactic(auto, unfolding(crate::specs::State::state_with))]
 pub fn state_with(t: Summary) -> Option<Summary>
     ensures { result ≡ state_with t }
 {
@@ -38,6 +39,7 @@ pub fn state_with(t: Summary) -> Option<Summary>
 }
 
 // The state of a tray: what it holds comes to, none where it is empty.
+#[tactic(auto, using(crate::proofs::Walk::walk_told, crate::proofs::Walk::walk_right), unfolding(crate::specs::State::state_of))]
 pub fn summary(tray: &[u32]) -> Result<Option<Summary>, Refusal>
     ensures value { result ≡ state_of tray.now }
     ensures right { RightState tray.now result }

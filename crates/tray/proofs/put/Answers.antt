@@ -1,5 +1,5 @@
 -- By the size, the pair's answer, and what `hold` answers.
-use mathlib.Core.Path.{sym, ap, ◌∙◌}
+use mathlib.Core.Path.{ap, ◌∙◌}
 use Rattle.std.proofs.lemmas.Result.{err_from_is_err_and}
 use Rattle.std.specs.Prelude.{Err}
 use Rattle.tray.proofs.Questions.{put_5, put_pair, put_refused, put_held}
