@@ -1,6 +1,6 @@
 -- A tray as its places and its kept numbers: what is read of each, and what is left where a call has changed the places and the summary is kept anew.
 use Prim.Native.Nat.{ℕ, ◌<◌}
-use mathlib.Core.Path.{◌≡◌, refl, sym, ap, ap₂, ◌∙◌}
+use mathlib.Core.Path.{◌≡◌, refl, sym, ap, ap₂, ◌∙◌, subst}
 use mathlib.Core.Bool.{true}
 use mathlib.Core.List.{List, ◌++◌}
 use native.Mathlib.Omega.{arith}
@@ -8,6 +8,7 @@ use borrow.Author.Tests.{eq-eqb, ne_eqb}
 use lib.Dec.{eqb}
 use lib.ListN.{length, get_or, drop, get_or-eq_default, length-drop, take-append-drop}
 use lib.Seq.{length-take-le, take_at, drop_at, get_or-take}
+use lib.Signed.{mag}
 use Rattle.std.specs.Prelude.{Result, Ok, Err}
 use Rattle.laws.specs.Bits.{span32}
 use Rattle.laws.proofs.Computed.{both_pass}
@@ -15,8 +16,9 @@ use Rattle.laws.proofs.Order.{by_test, by_order}
 use Rattle.reference.specs.declared.refusal.Refusal as of_pair
 use Rattle.index.specs.declared.answer.Index.{Index}
 use Rattle.index.specs.Questions.{refusal}
-use Rattle.index.specs.Answer.{Answer, RightAnswer}
+use Rattle.index.specs.Answer.{Answer, index_of, RightAnswer}
 use Rattle.index.specs.ChosenAnswer.{answer_of}
+use Rattle.index.proofs.Fits.{fits}
 use Rattle.index_summary.specs.declared.Summary.{Summary}
 use Rattle.index_summary.specs.Summary.{is_between}
 use Rattle.index_summary.specs.Preconditions.{most, Within, is_within}
@@ -32,7 +34,7 @@ use Rattle.tray.specs.declared.refusal.Refusal.{Refusal}
 use Rattle.tray.specs.declared.refusal.Refusal.TheVariants.{NotATray, Pair}
 use Rattle.tray.specs.Tray as places
 use Rattle.tray.specs.Calls.{Put, Take, refused_by}
-use Rattle.tray.proofs.EveryList.{every_call}
+use Rattle.tray.proofs.EveryList.{put_alone, every_call}
 use Rattle.tray.proofs.Questions.{refusal_some, answered_err, answered_ok}
 use Rattle.tray.proofs.Questions as questions
 use Rattle.tray.proofs.Steps.{refused_33, take_answered, call_step}
@@ -64,12 +66,18 @@ module _ (l : List ℕ) (h : length l ≡ tray_size) where
     pub kept_without : (s : Sample) → places_in changed ++ block_of (without_one (kept_in changed) s.answer (places_in changed)) ≡ tray_without l p (Ok s)
     kept_without s = ap₂ (λ (q : List ℕ) (t : Summary). q ++ block_of (without_one t s.answer q)) front behind
 
--- ---- the numbers of the places, the sample that is taken out, and what the kept numbers may say
+-- ---- the numbers of the places, the index that is put in, the sample that is taken out, and what the kept numbers may say
 
 pub front_small : (l : List ℕ) → length l ≡ tray_size → ((j : ℕ) → get_or l j 0 < span32) → (j : ℕ) → get_or (places_in l) j 0 < span32
 front_small l h f j =
     by_order j places_size (λ b. rw (get_or-take places_size l j 0 b) (f j))
     (λ b. rw (get_or-eq_default (places_in l) 0 {n = j} (omega (arith, length_places l h))) (omega arith))
+
+-- the index that the places answer a put with: its magnitude is below 2^32
+pub put_small : (q : List ℕ) (n u y : ℕ) {i : Index} → length q ≡ places_size → Ok i ≡ places.put_answer q n u y → mag (index_of (Ok i)) < span32
+put_small q n u y {i} h is =
+    let small : mag (index_of (answer_of u y)) < span32 = omega (arith, (fits u y).index) in
+    subst (λ (a : Answer). mag (index_of a) < span32) (sym (put_alone q n u y h (sym is)).1) small
 
 pub taken_is : (q : List ℕ) (n : ℕ) {s : Sample} → length q ≡ places_size → places.take_answer q n ≡ Ok s → s ≡ sample_at q (place_of_number q n)
 taken_is q n {s} h e =

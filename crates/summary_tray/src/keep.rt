@@ -51,7 +51,8 @@ fn says_rest(t: Summary, answer: Answer) -> bool
     t.is_within() && t.is_between(answer)
 }
 
-// The summary of a tray from which an answer has left that is still kept.
+// The summary of a tray from which an answer has left that is still kept. One function for this and `with_one` would be no plainer: it would take the test and
+// the step, and each has a definition of its own.
 #[tactic(auto, using(crate::proofs::Parts::says_within), unfolding(crate::specs::SummaryTray::without_one))]
 fn without_one(tray: &[u32; TRAY_SIZE], answer: Answer) -> Summary
     ensures { result ≡ without_one (kept_in tray.now) answer (places_in tray.now) }

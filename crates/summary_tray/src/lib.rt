@@ -37,7 +37,7 @@ pub fn put(tray: &mut [u32], number: u32, u: u32, y: u32) -> Result<Index, Refus
     let Some(tray) = tray.as_mut_array::<TRAY_SIZE>() else {
         return Err(Refusal::NotATray);
     };
-    let index = tray::put(&mut tray[..PLACES_SIZE], number, u, y)?;
+    let index = tray::put(tray.first_chunk_mut::<PLACES_SIZE>().unwrap(), number, u, y)?;
     keep_with(tray, Ok(index));
     Ok(index)
 }
@@ -50,7 +50,7 @@ pub fn take(tray: &mut [u32], number: u32) -> Result<Sample, Refusal>
     let Some(tray) = tray.as_mut_array::<TRAY_SIZE>() else {
         return Err(Refusal::NotATray);
     };
-    let sample = tray::take(&mut tray[..PLACES_SIZE], number)?;
+    let sample = tray::take(tray.first_chunk_mut::<PLACES_SIZE>().unwrap(), number)?;
     keep_without(tray, sample.answer);
     Ok(sample)
 }

@@ -18,7 +18,8 @@ pub returns-in_err-index : goal.returns-in_err-index
 returns-in_err-index c =
     let whole = c.in-Some.ensures.cases in
     let put = c.in_err-index.ensures in
-    let both = put_refused _ _ (ap length whole.same ∙ whole.long) _ _ put.numbers put.answer in
+    let places = (rw c.unwrap.ensures at c.first_chunk_mut.ensures.cases).same in
+    let both = put_refused _ _ (ap length whole.same ∙ whole.long) _ _ (rw places at put.numbers) (rw places at put.answer) in
     let p = err_from_is_err_and c.from_residual.result c.from_residual.ensures.1 in
     record {
       answer = p.1 ∙ ap Err p.2 ∙ (rw whole.same at both.0);
@@ -29,5 +30,6 @@ pub returns : goal.returns
 returns c =
     let whole = c.in-Some.ensures.cases in
     let put = c.in_ok-index.ensures in
-    let both = put_kept _ _ (ap length whole.same ∙ whole.long) _ _ put.numbers put.answer c.keep_with.ensures in
+    let places = (rw c.unwrap.ensures at c.first_chunk_mut.ensures.cases).same in
+    let both = put_kept _ _ (ap length whole.same ∙ whole.long) _ _ (rw places at put.numbers) (rw places at put.answer) c.keep_with.ensures in
     record { answer = rw whole.same at both.0; numbers = rw whole.same at both.1 }

@@ -18,7 +18,8 @@ pub returns-in_err-sample : goal.returns-in_err-sample
 returns-in_err-sample c =
     let whole = c.in-Some.ensures.cases in
     let took = c.in_err-sample.ensures in
-    let both = take_refused _ _ (ap length whole.same ∙ whole.long) took.numbers took.answer in
+    let places = (rw c.unwrap.ensures at c.first_chunk_mut.ensures.cases).same in
+    let both = take_refused _ _ (ap length whole.same ∙ whole.long) (rw places at took.numbers) (rw places at took.answer) in
     let p = err_from_is_err_and c.from_residual.result c.from_residual.ensures.1 in
     record {
       answer = p.1 ∙ ap Err p.2 ∙ (rw whole.same at both.0);
@@ -29,5 +30,6 @@ pub returns : goal.returns
 returns c =
     let whole = c.in-Some.ensures.cases in
     let took = c.in_ok-sample.ensures in
-    let both = take_kept _ _ (ap length whole.same ∙ whole.long) took.numbers took.answer c.keep_without.ensures in
+    let places = (rw c.unwrap.ensures at c.first_chunk_mut.ensures.cases).same in
+    let both = take_kept _ _ (ap length whole.same ∙ whole.long) (rw places at took.numbers) (rw places at took.answer) c.keep_without.ensures in
     record { answer = rw whole.same at both.0; numbers = rw whole.same at both.1 }
