@@ -1,23 +1,14 @@
--- The numbers of a summary fit their fields: what a sum with sign may come to, what 64 bits read back, and what holds of a summary with one answer more.
+-- The numbers of a summary fit their fields: what a sum with sign may come to, and what holds of a summary with one answer more.
 use Prim.Native.Nat.{ℕ, suc, ◌+◌, ◌≤◌, ◌<◌}
-use mathlib.Core.Path.{◌≡◌}
 use native.Mathlib.Omega.{arith}
 use lib.IntN.{ℤ, pos, negsuc, ◌+ℤ◌}
 use lib.Signed.{mag}
-use mir.Facts.{to_z-of_z}
-use mir.Syntax.{w64}
-use mir.Val.{to_z, of_z, SFits}
 use Rattle.std.specs.Int.{int_min, int_max}
 use Rattle.laws.specs.Bits.{span32}
 use Rattle.index.specs.Answer.{Answer, index_of, method_of}
 use Rattle.index_summary.specs.declared.Summary.{Summary}
 use Rattle.index_summary.specs.Summary.{one, method_a, method_settled, method_near, joined_of, nothing}
 use Rattle.index_summary.specs.Preconditions.{Within}
-
--- ---- 64 bits
-
-pub back : (z : ℤ) → SFits w64 z → to_z w64 (of_z w64 z) ≡ z
-back z f = to_z-of_z {w = w64} f
 
 -- ---- a sum
 

@@ -2,18 +2,15 @@
 use Rattle.laws.proofs.Contradiction.{not_some}
 use Rattle.reference.specs.Refusal as pair
 use Rattle.tray.specs.declared.refusal.Refusal.TheVariants.{NotATray, Pair}
-use Prim.Native.Nat.{ℕ, ◌<◌}
+use Prim.Native.Nat.{ℕ}
 use mathlib.Core.Path.{◌≡◌, refl, sym, ap, ◌∙◌, subst}
 use mathlib.Core.List.{List}
-use native.Mathlib.Omega.{arith}
 use borrow.Author.Tests.{eq-eqb, ne_eqb}
 use lib.IntN.{ℤ}
 use lib.ListN.{length, get_or}
 use Rattle.std.specs.Prelude.{Option, Result, Ok, Err}
-use mir.Facts.{to_z_pos}
-use mir.Syntax.{w32, w64}
-use mir.Val.{to_z, of_z, SFits}
-use Rattle.laws.specs.Bits.{span32}
+use mir.Syntax.{w32}
+use mir.Val.{SFits}
 use Rattle.index.specs.declared.answer.Index.{Index}
 use Rattle.index.specs.Answer.{Answer, number_of, method_of, index_of, lower_of, upper_of, RightAnswer}
 use Rattle.index.specs.ChosenAnswer.{answer_of}
@@ -24,7 +21,6 @@ use Rattle.answer_record.specs.Record.{result_size, method_offset, index_offset,
 use Rattle.answer_record.proofs.Fields.{laid_refusal, laid_method, laid_index, laid_lower, laid_upper}
 use Rattle.answer_record.proofs.Signed.{twos_complement_fits}
 use Rattle.index_summary.specs.declared.Summary.{Summary}
-use Rattle.index_summary.proofs.Fits.{back}
 use Rattle.tray_places.specs.declared.samples.Sample.{Sample}
 use Rattle.tray_places.specs.declared.samples.Place.{Place}
 use Rattle.tray_places.specs.Samples.{place_of}
@@ -34,25 +30,7 @@ use Rattle.tray.specs.Tray.{number_of_refusal, hold_answer, sample_with, tray_ho
 use Rattle.tray.proofs.Questions.{put_5, put_pair, put_refused, put_held}
 use Rattle.tray.specs.State.{state_of}
 use Rattle.tray.specs.Calls.{refused_by}
-use Rattle.tray_calls.specs.TrayCalls.{not_its_size, record_with, place_from, put_number, tray_put, record_put, pair_size, pair_with, record_from, take_number, tray_taken, pair_taken, record_taken, row_size, row_of, held_of, summary_row, row_with, summary_number, summary_after}
-
--- a summary's numbers as the code hands them on
-pub summary_stored : (t : Summary) {after : List ℤ} → SFits w64 t.lowest → SFits w64 t.highest → SFits w64 t.sum → t.a < span32 → t.settled < span32
-    → t.near < span32
-    → after ≡ row_of (to_z w64 (held_of t)) (to_z w64 (of_z w64 t.lowest)) (to_z w64 (of_z w64 t.highest)) (to_z w64 (of_z w64 t.sum))
-    (to_z w64 t.a) (to_z w64 t.settled) (to_z w64 t.near)
-    → after ≡ summary_row t
-summary_stored t low high sum a settled near e =
-    e
-    ∙ rw (
-      to_z_pos w64 {n = held_of t} (omega arith),
-      back t.lowest low,
-      back t.highest high,
-      back t.sum sum,
-      to_z_pos w64 {n = t.a} (omega arith),
-      to_z_pos w64 {n = t.settled} (omega arith),
-      to_z_pos w64 {n = t.near} (omega arith),
-    )
+use Rattle.tray_calls.specs.TrayCalls.{not_its_size, record_with, place_from, put_number, tray_put, record_put, pair_size, pair_with, record_from, take_number, tray_taken, pair_taken, record_taken, row_size, row_with, summary_number, summary_after}
 
 -- ---- putting in
 

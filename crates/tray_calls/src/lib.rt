@@ -26,6 +26,7 @@ const PAIR_SIZE: usize = 2;
 const SUMMARY_SIZE: usize = 7;
 
 // The place of a sample whose answer stands in a record.
+#[tactic(auto, unfolding(crate::specs::TrayCalls::place_from))]
 fn place_from(filled: &[u8; RESULT_SIZE], number: u32, u: u32, y: u32) -> Place
     ensures { result ≡ place_from filled.now number u y }
 {
@@ -47,7 +48,8 @@ fn number_of(refusal: Refusal) -> u32
     u32::from(u8::from(refusal))
 }
 
-// Puts a sample in whose pair's answer stands in a record, and gives that record. An inner function, for callers that have asked the pair.
+// Puts a sample in whose pair's answer stands in a record, and gives that record. An inner function, for callers that have asked the pair. The number, u, y and
+// what is lent are parameters here and below as C hands them over: a type around them would be made for one call and taken apart at once.
 pub fn put_answered(
     tray: &mut [u32],
     number: u32,
@@ -82,7 +84,7 @@ pub fn put_answered(
 }
 
 // Takes a sample out: its pair, and its answer as one record.
-#[tactic(auto, unfolding(crate::specs::TrayCalls::take_number, crate::specs::TrayCalls::tray_taken, crate::specs::TrayCalls::pair_taken, crate::specs::TrayCalls::record_taken))]
+#[tactic(auto, using(answer_record::proofs::Stores::stored_whole, answer_record::proofs::Records::length_record), unfolding(crate::specs::TrayCalls::take_number, crate::specs::TrayCalls::tray_taken, crate::specs::TrayCalls::pair_taken, crate::specs::TrayCalls::record_taken))]
 pub fn take_sample(tray: &mut [u32], number: u32, pair: &mut [u32], record: &mut [u8]) -> u32
     ensures number { result ≡ take_number tray.old pair.old «record».old number }
     ensures numbers { tray.new ≡ tray_taken tray.old pair.old «record».old number }
@@ -112,19 +114,20 @@ fn state_row(state: Option<Summary>) -> [i64; SUMMARY_SIZE]
     let Some(t) = state else {
         return [0; SUMMARY_SIZE];
     };
-    let held = (t.a as u64 + t.settled as u64 + t.near as u64) as i64;
+    let held = i64::from(t.a) + i64::from(t.settled) + i64::from(t.near);
     [
         held,
         t.lowest,
         t.highest,
         t.sum,
-        t.a as i64,
-        t.settled as i64,
-        t.near as i64,
+        i64::from(t.a),
+        i64::from(t.settled),
+        i64::from(t.near),
     ]
 }
 
 // The summary of a tray as a row.
+#[tactic(auto, unfolding(crate::specs::TrayCalls::summary_number, crate::specs::TrayCalls::summary_after))]
 pub fn fill_summary(tray: &[u32], row: &mut [i64]) -> u32
     ensures number { result ≡ summary_number tray.now row.old }
     ensures numbers { row.new ≡ summary_after tray.now row.old }
