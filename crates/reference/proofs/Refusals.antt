@@ -1,4 +1,4 @@
--- The refusals and their numbers are one and the same list.
+-- The refusals have the numbers of document 01, and the two are one and the same list.
 use Prim.Native.Nat.{ℕ, zero, suc, ◌<◌, ◌≤◌}
 use mathlib.Core.Path.{◌≡◌, refl}
 use native.Mathlib.Omega.{arith}
@@ -21,4 +21,5 @@ of_refusal ThickAt40 = refl
 of_refusal NotThicker = refl
 
 pub numbered_refusals : NumberedRefusals
-numbered_refusals = record { of_number = of_number; of_refusal = of_refusal }
+numbered_refusals =
+    record { thin_at_100 = refl; thick_at_100 = refl; thick_at_40 = refl; not_thicker = refl; of_number = of_number; of_refusal = of_refusal }

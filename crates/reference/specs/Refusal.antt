@@ -18,7 +18,11 @@ refusal_of n =
     (cond (eqb n 3) ThickAt40
     NotThicker))
 
--- of the numbers of the questions each is that of its refusal, and each refusal that of its number
+-- the four numbers, as document 01 gives them; of these each is that of its refusal, and each refusal that of its number
 pub record NumberedRefusals : Type 0 where
+  pub thin_at_100 : number_of_refusal ThinAt100 ≡ 1
+  pub thick_at_100 : number_of_refusal ThickAt100 ≡ 2
+  pub thick_at_40 : number_of_refusal ThickAt40 ≡ 3
+  pub not_thicker : number_of_refusal NotThicker ≡ 4
   pub of_number : (n : ℕ) → 0 < n → n ≤ 4 → number_of_refusal (refusal_of n) ≡ n
   pub of_refusal : (r : Refusal) → refusal_of (number_of_refusal r) ≡ r
