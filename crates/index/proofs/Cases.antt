@@ -51,6 +51,12 @@ pub index_b_is : (u y : ℕ) → in_units u < h_at y → index_passed u y ≡ B 
 unfolding index_passed
 index_b_is u y l = rw (lt-ltb (in_units u) (h_at y) l)
 
+pub answer_a : (u y : ℕ) → Passes u y → h_at y ≤ in_units u → answer_of u y ≡ Ok (A (index_a u y))
+answer_a u y a l = answer_passed u y a ∙ ap Ok (index_a_is u y l)
+
+pub answer_b : (u y : ℕ) → Passes u y → in_units u < h_at y → answer_of u y ≡ Ok (B (answer_by_b u y))
+answer_b u y a l = answer_passed u y a ∙ ap Ok (index_b_is u y l)
+
 -- what holds of each of the three cases holds of every pair
 pub by_answer : {P : Type 0} (u y : ℕ)
     → ((r : Refusal) → RefusedBy u y r → P)
@@ -59,8 +65,8 @@ pub by_answer : {P : Type 0} (u y : ℕ)
 by_answer u y refused below above =
     by_questions u y (λ n e p. refused _ (refused_by u y n e p))
     (λ a. by_order (in_units u) (h_at y)
-    (λ l. below a l (answer_passed u y a ∙ ap Ok (index_b_is u y l)))
-    (λ h. above a h (answer_passed u y a ∙ ap Ok (index_a_is u y h))))
+    (λ l. below a l (answer_b u y a l))
+    (λ h. above a h (answer_a u y a h)))
 
 -- ---- the index, from L, H and U as the code holds them
 

@@ -46,7 +46,7 @@ fn fractions_of(oil: Oil) -> Fractions
     requires { OilBelowH oil }
     ensures { FoundFractions oil.u oil.y result.lower result.upper }
 {
-    let ly = logarithm::log2_scaled(oil.y as u64);
+    let ly = logarithm::log2_scaled(u64::from(oil.y));
     let lu = logarithm::log2_scaled(reference::in_units(oil.u));
     let lh = logarithm::log2_scaled(oil.h);
     let lower = lower_numerator(ly, lu, lh);
