@@ -1,6 +1,6 @@
 -- The answer to a pair and what the questions say of it, case by case.
 use Prim.Native.Nat.{ℕ, ◌<◌, ◌≤◌}
-use mathlib.Core.Path.{◌≡◌, refl, sym, ◌∙◌, ap, subst}
+use mathlib.Core.Path.{◌≡◌, sym, ◌∙◌, ap, subst}
 use native.Mathlib.Omega.{arith}
 use borrow.Author.Tests.{lt-ltb, le-ltb, ne_eqb}
 use lib.IntN.{ℤ}
@@ -15,7 +15,6 @@ use Rattle.reference.specs.Basis.{l_at, h_at}
 use Rattle.reference.proofs.Asked.{by_asked100, by_asked40, within100, within40}
 use Rattle.reference.proofs.Refusals.{numbered_refusals}
 use Rattle.index.specs.declared.questions.Viscosities.{Viscosities}
-use Rattle.index.specs.declared.answer.Index.{Index}
 use Rattle.index.specs.declared.answer.Index.TheVariants.{A, B}
 use Rattle.index.specs.Questions.{refusal, asked_of}
 use Rattle.index.specs.ProcedureA.{rounded_a, index_a}
@@ -153,3 +152,6 @@ passed_pair u y pair e =
     (λ a. let f : Ok (record { u = u; y = y }) ≡ Ok pair = sym (asked_passed u y a) ∙ e in
     let g : ◌≡◌ {A = Viscosities} (record { u = u; y = y }) pair = cc in
     subst (Same u y) g (record { passes = a; answer = sym (answer_passed u y a) }))
+
+pub passes_asked : (u y : ℕ) (pair : Viscosities) → asked_of u y ≡ Ok pair → Passes pair.u pair.y
+passes_asked u y pair e = (passed_pair u y pair e).passes

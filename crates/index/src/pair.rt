@@ -13,6 +13,7 @@ use reference::{Located, ReferenceOil};
 // The index of a pair that passes the questions. Procedure B needs no L, so H comes first; both are found at one place.
 // Laid out where it is called: a sheet asks it for every pair, and an oil at or above H needs little else.
 #[inline(always)]
+#[tactic(auto, using(crate::proofs::Cases::oil_below, crate::proofs::Cases::index_below, crate::proofs::Cases::index_above))]
 fn index_passed(pair: Viscosities) -> Index
     requires { Passes pair.u pair.y }
     ensures { result ≡ index_passed pair.u pair.y }
@@ -33,6 +34,7 @@ fn index_passed(pair: Viscosities) -> Index
 
 // The pair operation: the answer to any two numbers. u and y are plain numbers until the questions are asked, as they are in a sheet and in C.
 #[inline(always)]
+#[tactic(auto, using(crate::proofs::Cases::refused_answer, crate::proofs::Cases::passed_pair, crate::proofs::Cases::passes_asked, crate::proofs::Right::right))]
 pub fn answer_pair(u: u32, y: u32) -> Answer
     ensures value { result ≡ answer_of u y }
     ensures right { RightAnswer u y result }

@@ -19,6 +19,7 @@ pub struct Oil {
 }
 
 // p, from the logarithms of y, U and H: N rounded down, with every logarithm on the side that makes it smaller.
+#[tactic(auto, unfolding(crate::specs::ChosenFractions::lower_from))]
 fn lower_numerator(ly: u64, lu: u64, lh: u64) -> u64
     requires { InBounds ly lu lh }
     ensures { result ≡ lower_from ly lu lh }
@@ -31,6 +32,7 @@ fn lower_numerator(ly: u64, lu: u64, lh: u64) -> u64
 
 // P: the first after p that is not below N, with every logarithm on the side that makes N greater. It is p + 1 or p + 2, so one product
 // tells, and no second division is needed.
+#[tactic(auto, using(crate::proofs::Numerators::lower_small), unfolding(crate::specs::ChosenFractions::upper_from))]
 fn upper_numerator(ly: u64, lu: u64, lh: u64, p: u64) -> u64
     requires { InBounds ly lu lh × (p ≡ lower_from ly lu lh) }
     ensures { result ≡ upper_from ly lu lh p }
@@ -42,6 +44,7 @@ fn upper_numerator(ly: u64, lu: u64, lh: u64, p: u64) -> u64
 }
 
 // p and P of an oil below H.
+#[tactic(auto, using(crate::proofs::OilNumerators::y_range, crate::proofs::OilNumerators::units_range, crate::proofs::OilNumerators::h_range, crate::proofs::OilNumerators::bounded))]
 fn fractions_of(oil: Oil) -> Fractions
     requires { OilBelowH oil }
     ensures { FoundFractions oil.u oil.y result.lower result.upper }
@@ -56,6 +59,7 @@ fn fractions_of(oil: Oil) -> Fractions
 
 // Procedure B: a function of its own in the machine code, so that an oil at or above H does not pay for it.
 #[inline(never)]
+#[tactic(auto, using(crate::proofs::OilNumerators::by_b_is))]
 pub fn procedure_b(oil: Oil) -> ByB
     requires { OilBelowH oil }
     ensures { result ≡ answer_by_b oil.u oil.y }

@@ -12,6 +12,7 @@ pub struct Viscosities {
 }
 
 // Questions 1 to 4: the constructors of the two viscosities ask the first three.
+#[tactic(auto, using(crate::proofs::Cases::refused_at_100, crate::proofs::Cases::refused_at_40, crate::proofs::Cases::not_thicker, crate::proofs::Cases::thicker))]
 pub fn ask(u: u32, y: u32) -> Result<Viscosities, Refusal>
     ensures { result ≡ asked_of u y }
 {
