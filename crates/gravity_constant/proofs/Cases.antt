@@ -1,7 +1,7 @@
 -- The answer and what the questions say, case by case.
 use Prim.Native.Nat.{ℕ, ◌+◌}
 use mathlib.Core.Path.{◌≡◌, refl, sym, ap, ◌∙◌, subst}
-use mathlib.Core.Bool.{true}
+use mathlib.Core.Bool.{true, false}
 use Rattle.laws.proofs.Contradiction.{impossible}
 use Rattle.std.specs.Prelude.{Result, Ok, Err}
 use Rattle.gravity_constant.specs.declared.questions.Refusal.{Refusal}
@@ -31,6 +31,14 @@ module _ (t : Temperature) (d n : ℕ) where
   pub found : divides_at t n ≡ true → divides_at t (n + apart) ≡ true → answer_at t d n ≡ Ok (constant_at t d n)
   unfolding answer_at
   found a b = rw (a, b) refl
+
+  pub no_divisor_lower : divides_at t n ≡ false → answer_at t d n ≡ Err DivisorNotAboveZero
+  unfolding answer_at
+  no_divisor_lower a = rw a refl
+
+  pub no_divisor_upper : divides_at t n ≡ true → divides_at t (n + apart) ≡ false → answer_at t d n ≡ Err DivisorNotAboveZero
+  unfolding answer_at
+  no_divisor_upper a b = rw (a, b) refl
 
 -- ---- what the questions say
 

@@ -5,6 +5,7 @@ use mathlib.Core.Path.{◌≡◌, subst₂}
 use native.Mathlib.Omega.{arith}
 use native.Mathlib.Nat.{div-mul-le_self, lt-div-mul-add, div-lt_iff_lt-mul, mul-add, mul-le-mul_right}
 use lib.IntN.{sub_ℕ}
+use Rattle.laws.specs.Bits.{half32}
 use Rattle.laws.proofs.Powers.{ring}
 use Rattle.logarithm.specs.Fractions.{Q_number}
 use Rattle.gravity_constant.specs.declared.questions.Temperature.{Temperature}
@@ -109,3 +110,9 @@ fits_upper t d n o p =
     (subst₂ (Rounded (count_at t d n)) (further _ _ n p.sum_above) (further _ _ n (omega (arith, p.divisor_above))) (here t d n o))
     (omega (arith, o.slopes_few, divisor_least t d (n + apart) p))
     (omega (arith, few_times (count_at t d n) r (few t d n o) (omega (arith, o.slopes_few)), divisor_least t d (n + apart) p)))
+
+-- ---- for the code
+
+pub small_n : (t : Temperature) (n : ℕ) → n ≤ most_upper t → n < half32
+small_n At40 n h = omega arith
+small_n At100 n h = omega arith

@@ -7,6 +7,11 @@ use Rattle.sheet.specs.declared.questions.Blocks.{Blocks}
 use Rattle.sheet.specs.Sheet.{pair_size}
 use Rattle.sheet.specs.Preconditions.{PairWithin, BlocksWithin}
 
+-- the blocks by the numbers that were read from the header
+pub blocks_read : {size n n' pairs pairs' results results' : ℕ} → n' ≡ n → pairs' ≡ pairs → results' ≡ results
+    → BlocksWithin size (record { count = n; pairs = pairs; results = results }) → BlocksWithin size (record { count = n'; pairs = pairs'; results = results' })
+blocks_read n p r b = rw (n, p, r) b
+
 module _ {size : ℕ} {blocks : Blocks} (b : BlocksWithin size blocks) (i : ℕ) (h : i < blocks.count) where
   pub pair_within : PairWithin size blocks i
   pair_within = record { pair = omega (arith, b.pairs_end); result = omega (arith, b.results_end) }
