@@ -1,5 +1,6 @@
 -- The two blocks of a sheet: pair i and its record lie within them, and pair i shares no byte with the records.
 use Prim.Native.Nat.{ℕ, ◌+◌, ◌*◌, ◌≤◌, ◌<◌}
+use mathlib.Core.Path.{◌≡◌}
 use mathlib.Core.Logic.{◌⊎◌, inl, inr, ⊎_elim}
 use native.Mathlib.Omega.{arith}
 use Rattle.answer_record.specs.Record.{result_size}

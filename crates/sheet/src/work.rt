@@ -21,6 +21,7 @@ pub fn pair_at(sheet: &[u8], pairs: usize, i: usize) -> Pair
 }
 
 // Answers pair i, and writes its record as result i.
+#[tactic(auto, using(crate::proofs::Records::part_worked))]
 fn work_pair(sheet: &mut [u8], blocks: Blocks, i: usize)
     requires { PairWithin (length sheet.old) blocks i }
     ensures { sheet.new ≡ stored sheet.old (blocks.results + result_size * i) (record_of (answer_at sheet.old blocks.pairs i)) }
@@ -31,6 +32,7 @@ fn work_pair(sheet: &mut [u8], blocks: Blocks, i: usize)
 }
 
 // Answers all pairs, and writes their records.
+#[tactic(auto, using(crate::proofs::Records::none_stored, crate::proofs::Within::pair_within))]
 pub fn work_pairs(sheet: &mut [u8], blocks: Blocks)
     requires { BlocksWithin (length sheet.old) blocks }
     ensures { sheet.new ≡ stored sheet.old blocks.results (records_of sheet.old blocks.pairs blocks.count) }

@@ -45,6 +45,7 @@ pub extern "C" fn vi_pair(u: u32, y: u32, record: &mut [u8]) -> u32
 
 // Works a sheet. The count of its pairs stands in its header, so the number is all that is answered.
 #[unsafe(no_mangle)]
+#[tactic(auto, using(crate::proofs::Calls::sheet_number))]
 pub extern "C" fn vi_sheet(sheet: &mut [u8]) -> u32
     ensures number { result ≡ sheet_refusal sheet.old }
     ensures bytes { sheet.new ≡ sheet_after sheet.old }
@@ -77,6 +78,7 @@ pub extern "C" fn vi_constant_100(viscosity: u32, density: u32, row: &mut [i32])
 
 // Puts a sample into a lent tray: the pair's answer as one record. A refused call leaves the tray and the record as they are.
 #[unsafe(no_mangle)]
+#[tactic(auto, unfolding(crate::specs::PairCall::record_after))]
 pub extern "C" fn vi_tray_put(
     tray: &mut [u32],
     number: u32,
