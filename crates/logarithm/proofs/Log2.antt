@@ -179,10 +179,11 @@ pub fraction_computed :
 unfolding fraction_of rest_of tail_of
 fraction_computed m a b k l r s = rw (r.log, s.log, s.mantissa, r.mantissa)
 
-pub shift_fits : (x : ℕ) → InRange x → (x * 2 ^ (count_leading_zeros 64 (x / 2) - mantissa_zeros)) % 2 ^ 64 ≡ mantissa x
+-- z is the code's count of the zeros of x / 2
+pub shift_fits : (x z : ℕ) → InRange x → z ≡ count_leading_zeros 64 (x / 2) → (x * 2 ^ (z - mantissa_zeros)) % 2 ^ 64 ≡ mantissa x
 unfolding mantissa zeros_of
-shift_fits x r = let n = normal x r in mod-eq_of_lt (omega (arith, n.most))
+shift_fits x z r e = let n = normal x r in rw e (mod-eq_of_lt (omega (arith, n.most)))
 
-pub log2_computed : (x f : ℕ) → f ≡ fraction_of (mantissa x) → f + (one_zeros - count_leading_zeros 64 (x / 2)) * scale_number ≡ log2_of x
+pub log2_computed : (x z f : ℕ) → z ≡ count_leading_zeros 64 (x / 2) → f ≡ fraction_of (mantissa x) → f + (one_zeros - z) * scale_number ≡ log2_of x
 unfolding log2_of zeros_of
-log2_computed x f e = ap (λ (y : ℕ). y + (one_zeros - count_leading_zeros 64 (x / 2)) * scale_number) e
+log2_computed x z f e h = rw (e, h) refl

@@ -118,6 +118,6 @@ pub fn log2_scaled(x: u64) -> u64
 {
     // Of x / 2 and not of x: x86's instruction waits for the register that it writes, and the compiler clears that register first only where the
     // number may be 0. Of x, known not to be 0, each logarithm would wait for the one before (docs/PERFORMANCE.md).
-    let zeros = u64::leading_zeros(x / 2) as u64;
+    let zeros = u64::from((x / 2).leading_zeros());
     fraction(x << (zeros - MANTISSA_ZEROS)) + (ONE_ZEROS - zeros) * SCALE
 }
