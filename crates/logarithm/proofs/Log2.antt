@@ -11,7 +11,7 @@ use Rattle.laws.proofs.Order.{by_order}
 use Rattle.laws.proofs.Powers.{mul_pow, pow_mul}
 use Rattle.logarithm.specs.Scale.{scale, scale_is, scale_number, width, unit, bound}
 use Rattle.logarithm.specs.Tables.{first_table, second_table}
-use Rattle.logarithm.specs.Log2.{packing, first_spacing, first_divisor, second_spacing, second_divisor, slope, slope_divisor, zeros_of, mantissa, entry_at, entry_of, times_factor, level_log, level_rest, tail_of, rest_of, fraction_of, log2_of, Enclosed, Reduces, slot_count, mantissa_zeros, one_zeros}
+use Rattle.logarithm.specs.Log2.{first_spacing, first_divisor, second_spacing, second_divisor, slope, slope_divisor, zeros_of, mantissa, level_log, level_rest, tail_of, rest_of, fraction_of, log2_of, Enclosed, Reduces, slot_count, mantissa_zeros, one_zeros}
 use Rattle.logarithm.specs.Preconditions.{InRange}
 use Rattle.logarithm.proofs.Level.{CertifiedTable, Factored, level, first_width, second_width, tail_room, first_certified, second_certified}
 use Rattle.logarithm.proofs.Tail.{tail, tail_width}
@@ -158,12 +158,6 @@ enclosed x a b = log2_enclosed x (record { least = lit≤ a; most = lit< b })
 
 -- ---- for the proofs of the code
 
-pub reduces :
-    (table : List ℕ) (S D m p t : ℕ) → p ≡ entry_at table ((m - unit) / S) → t ≡ p / packing → t < 2 * unit
-    → Reduces table S D m (times_factor D m p) t
-unfolding level_rest level_log entry_of
-reduces table S D m p t e q h = record { mantissa = ap (times_factor D m) e; log = q ∙ ap (λ (x : ℕ). x / packing) e; small = h }
-
 -- a level's answer is in the next one's range
 pub reduced_range :
     {D S room w n m a t : ℕ} {table : List ℕ} → CertifiedTable D S room w n table → Reduces table S D m a t → 0 < S → unit ≤ m → m < unit + n * S
@@ -184,6 +178,10 @@ pub shift_fits : (x z : ℕ) → InRange x → z ≡ count_leading_zeros 64 (x /
 unfolding mantissa zeros_of
 shift_fits x z r e = let n = normal x r in rw e (mod-eq_of_lt (omega (arith, n.most)))
 
-pub log2_computed : (x z f : ℕ) → z ≡ count_leading_zeros 64 (x / 2) → f ≡ fraction_of (mantissa x) → f + (one_zeros - z) * scale_number ≡ log2_of x
+pub log2_found :
+    (x z f : ℕ) → InRange x → z ≡ count_leading_zeros 64 (x / 2) → f ≡ fraction_of ((x * 2 ^ (z - mantissa_zeros)) % 2 ^ 64)
+    → Enclosed x (f + (one_zeros - z) * scale_number)
 unfolding log2_of zeros_of
-log2_computed x z f e h = rw (e, h) refl
+log2_found x z f r e h =
+    let v : f + (one_zeros - z) * scale_number ≡ log2_of x = rw (h, shift_fits x z r e, e) refl in
+    subst (λ (n : ℕ). Enclosed x n) (sym v) (log2_enclosed x r)

@@ -89,6 +89,7 @@ fn log_in(entry: u64) -> u64
 }
 
 // One level: m times the factor over d that the table has for its slot, rounded down. Slots are s apart.
+#[tactic(auto, unfolding(crate::specs::Log2::level_rest, crate::specs::Log2::level_log, crate::specs::Log2::entry_of, crate::specs::Log2::entry_at, crate::specs::Log2::times_factor))]
 fn reduce(table: &[u64; SLOT_COUNT], m: u64, s: u64, d: u64) -> Reduced
     requires { (unit ≤ m) × (m < 2 * unit) × (0 < s) × (packing ≤ d) × (d ≤ unit) × ((m - unit) / s < slot_count) }
     ensures { Reduces table.now s d m result.mantissa result.log }
