@@ -1,6 +1,5 @@
--- `log2_of` encloses the logarithm: `log2_enclosed`. Then what the proofs of the code cite.
+-- `log2_of` encloses the logarithm: `log2_enclosed`. Then what the proof of the code asks of a shift.
 use mathlib.Core.Path.{◌≡◌, refl, sym, ap, ◌∙◌, subst}
-use mathlib.Core.List.{List}
 use Prim.Native.Nat.{ℕ, zero, suc, ◌+◌, ◌*◌, ◌-◌, ◌/◌, ◌%◌, ◌^◌, ◌≤◌, ◌<◌}
 use native.Mathlib.Nat.{mul_assoc, mul-le-mul_left, mul-le-mul_right, le_of_mul-le-mul_right, mul-lt-mul_of_pos_right, add-mul, mod-eq_of_lt, pow-suc, pow-lt-pow_left}
 use native.Mathlib.Omega.{arith}
@@ -11,9 +10,9 @@ use Rattle.laws.proofs.Order.{by_order}
 use Rattle.laws.proofs.Powers.{mul_pow, pow_mul}
 use Rattle.logarithm.specs.Scale.{scale, scale_is, scale_number, width, unit, bound}
 use Rattle.logarithm.specs.Tables.{first_table, second_table}
-use Rattle.logarithm.specs.Log2.{first_spacing, first_divisor, second_spacing, second_divisor, slope, slope_divisor, zeros_of, mantissa, level_log, level_rest, tail_of, rest_of, fraction_of, log2_of, Enclosed, Reduces, slot_count, mantissa_zeros, one_zeros}
+use Rattle.logarithm.specs.Log2.{first_spacing, first_divisor, second_spacing, second_divisor, zeros_of, mantissa, level_log, level_rest, tail_of, rest_of, fraction_of, log2_of, Enclosed, slot_count, mantissa_zeros, one_zeros}
 use Rattle.logarithm.specs.Preconditions.{InRange}
-use Rattle.logarithm.proofs.Level.{CertifiedTable, Factored, level, first_width, second_width, tail_room, first_certified, second_certified}
+use Rattle.logarithm.proofs.Level.{Factored, level, first_width, second_width, tail_room, first_certified, second_certified}
 use Rattle.logarithm.proofs.Tail.{tail, tail_width}
 
 -- ---- the mantissa: two levels and the tail
@@ -156,32 +155,8 @@ log2_enclosed x r =
 pub enclosed : (x : ℕ) → T (leb 1 x) → T (ltb x (2 * unit)) → Enclosed x (log2_of x)
 enclosed x a b = log2_enclosed x (record { least = lit≤ a; most = lit< b })
 
--- ---- for the proofs of the code
+-- ---- for the proof of the code: x shifted up fits its type, and is the mantissa. z is the code's count of the zeros of x / 2
 
--- a level's answer is in the next one's range
-pub reduced_range :
-    {D S room w n m a t : ℕ} {table : List ℕ} → CertifiedTable D S room w n table → Reduces table S D m a t → 0 < S → unit ≤ m → m < unit + n * S
-    → (unit ≤ a) × (a < unit + room)
-reduced_range {m = m} c r p lo hi =
-    let v = level c m p lo hi in
-    let e = r.mantissa in
-    (omega (arith, v.least), omega (arith, v.most))
-
-pub fraction_computed :
-    (m a b k l : ℕ) → Reduces first_table first_spacing first_divisor m a k → Reduces second_table second_spacing second_divisor a b l
-    → k + (l + (b - unit) * slope / slope_divisor) ≡ fraction_of m
-unfolding fraction_of rest_of tail_of
-fraction_computed m a b k l r s = rw (r.log, s.log, s.mantissa, r.mantissa)
-
--- z is the code's count of the zeros of x / 2
 pub shift_fits : (x z : ℕ) → InRange x → z ≡ count_leading_zeros 64 (x / 2) → (x * 2 ^ (z - mantissa_zeros)) % 2 ^ 64 ≡ mantissa x
 unfolding mantissa zeros_of
 shift_fits x z r e = let n = normal x r in rw e (mod-eq_of_lt (omega (arith, n.most)))
-
-pub log2_found :
-    (x z f : ℕ) → InRange x → z ≡ count_leading_zeros 64 (x / 2) → f ≡ fraction_of ((x * 2 ^ (z - mantissa_zeros)) % 2 ^ 64)
-    → Enclosed x (f + (one_zeros - z) * scale_number)
-unfolding log2_of zeros_of
-log2_found x z f r e h =
-    let v : f + (one_zeros - z) * scale_number ≡ log2_of x = rw (h, shift_fits x z r e, e) refl in
-    subst (λ (n : ℕ). Enclosed x n) (sym v) (log2_enclosed x r)

@@ -103,6 +103,7 @@ fn reduce(table: &[u64; SLOT_COUNT], m: u64, s: u64, d: u64) -> Reduced
 }
 
 // The logarithm of m / UNIT.
+#[tactic(auto, using(crate::proofs::Log2::first_level, crate::proofs::Log2::second_level), unfolding(crate::specs::Tables::first_table, crate::specs::Tables::second_table, crate::specs::Log2::fraction_of, crate::specs::Log2::rest_of, crate::specs::Log2::tail_of))]
 fn fraction(m: u64) -> u64
     requires { (unit ≤ m) × (m < 2 * unit) }
     ensures { (result ≡ fraction_of m) × (result < 16 * unit) }
@@ -113,6 +114,7 @@ fn fraction(m: u64) -> u64
 }
 
 // The scaled logarithm of x. An inner function, for callers that know x to be in its range.
+#[tactic(auto, using(crate::proofs::Log2::normal, crate::proofs::Log2::shift_fits, crate::proofs::Log2::log2_enclosed), unfolding(crate::specs::Log2::zeros_of, crate::specs::Log2::log2_of))]
 pub fn log2_scaled(x: u64) -> u64
     requires { InRange x }
     ensures { Enclosed x result }
