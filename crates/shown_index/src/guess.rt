@@ -29,24 +29,11 @@ fn power_of_two(f: u64) -> u64
     multiply_add(4_294_983_206, linear, f)
 }
 
-// A number from the least index to one below the greatest. k stays a number here and in `search`: it is reckoned with at each use (100 · k + 50, k + 1), so that
-// a type around it would be taken apart everywhere.
-fn clamped(k: u64) -> u64
-    ensures { (least_index ≤ result) × (result < most_index) }
-{
-    if k < LEAST_INDEX {
-        return LEAST_INDEX;
-    }
-    if MOST_INDEX - 1 < k {
-        return MOST_INDEX - 1;
-    }
-    k
-}
-
 // By how much c grows from one whole index to the next.
 const C_GROWTH: u64 = 100 * C_PER_HUNDREDTH;
 
-// A guess of k from p: 10^(p / Q) as a power of two, then the index at it, rounded. 217,706 / 2^16 is close to log2 10.
+// A guess of k from p: 10^(p / Q) as a power of two, then the index at it, rounded. 217,706 / 2^16 is close to log2 10. k stays a number here and in
+// `search`: it is reckoned with at each use (100 · k + 50, k + 1), so that a type around it would be taken apart everywhere.
 pub fn guess(p: u64) -> u64
     requires { p ≤ most_lower }
     ensures { (least_index ≤ result) × (result < most_index) }
@@ -56,7 +43,8 @@ pub fn guess(p: u64) -> u64
     if c < C_AT_100 {
         return LEAST_INDEX;
     }
-    clamped((c - C_AT_100 + LEAST_INDEX * C_GROWTH + C_GROWTH / 2) / C_GROWTH)
+    let k = (c - C_AT_100 + LEAST_INDEX * C_GROWTH + C_GROWTH / 2) / C_GROWTH;
+    k.clamp(LEAST_INDEX, MOST_INDEX - 1)
 }
 
 // A guess of k from p where the table of thresholds reaches. The index and a half, in units of 2^-22: the polynomial of the fifth degree in p / Q
