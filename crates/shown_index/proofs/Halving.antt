@@ -16,7 +16,7 @@ use Rattle.shown_index.specs.declared.Mark.TheVariants as mark
 use Rattle.shown_index.specs.declared.search.Trial.TheVariants as trial
 use Rattle.shown_index.specs.Terms.{c, least_index, most_index}
 use Rattle.laws.proofs.Contradiction.{impossible, both_ways}
-use Rattle.shown_index.specs.ChosenIndex.{most_lower, shows_least, shows_most, search_of, whole_of, made, marked_of, trial_of}
+use Rattle.shown_index.specs.ChosenIndex.{most_lower, shows_least, shows_most, search_of, whole_of, made, marked_of, trial_of, chosen_index}
 use Rattle.logarithm.proofs.Constants.{ten, ten_million}
 use Rattle.shown_index.proofs.Growth.{growth, apart, c_range}
 use Rattle.shown_index.proofs.Shows.{true_least, false_least, least_easier, below_least, below_most}
@@ -49,8 +49,11 @@ log_below_most =
     twice_below scale log10 10 159 (c below_most) 18 (log2_of (c below_most) + width) ten.below
     (log2_enclosed (c below_most) (c_range below_most (omega arith) (omega arith))).above (lit≤ tt)
 
-pub hundred_shown : (p : ℕ) → shows_least p below_least ≡ true
-hundred_shown p = true_least p below_least (omega (arith, log_below_least))
+pub hundred_shown : (p r : ℕ) → r ≡ below_least → shows_least p r ≡ true
+hundred_shown p r e = rw e (true_least p below_least (omega (arith, log_below_least)))
+
+pub greatest_not_shown : (p r : ℕ) → p ≤ most_lower → r ≡ below_most → shows_least p r ≡ false
+greatest_not_shown p r h e = rw e (false_least p below_most (omega (arith, log_below_most, scale_is)))
 
 pub bracket_start : (p : ℕ) → p ≤ most_lower → Bracket p least_index most_index
 bracket_start p h =
@@ -58,8 +61,8 @@ bracket_start p h =
       order = omega arith;
       least = omega arith;
       most = omega arith;
-      shown = hundred_shown p;
-      not_shown = false_least p below_most (omega (arith, log_below_most, scale_is));
+      shown = hundred_shown p below_least refl;
+      not_shown = greatest_not_shown p below_most h refl;
     }
 
 -- ---- one halving
@@ -157,10 +160,22 @@ module _ (k p P : ℕ) (least : least_index ≤ k) (most : k < most_index) where
 
 -- ---- the mark
 
-pub marked_settled : (k p P : ℕ) → shows_most P (100 * k + 50) ≡ true → marked_of k p P ≡ made k mark.Settled p P
+marked_settled : (k p P : ℕ) → shows_most P (100 * k + 50) ≡ true → marked_of k p P ≡ made k mark.Settled p P
 unfolding marked_of
 marked_settled k p P e = rw e
 
-pub marked_near : (k p P : ℕ) → shows_most P (100 * k + 50) ≡ false → marked_of k p P ≡ made (k + 1) mark.Near p P
+marked_near : (k p P : ℕ) → shows_most P (100 * k + 50) ≡ false → marked_of k p P ≡ made (k + 1) mark.Near p P
 unfolding marked_of
 marked_near k p P e = rw e
+
+-- a k that a trial finds is the one that the search would find
+module _ (k p P : ℕ) (least : least_index ≤ k) (most : k < most_index) (few : p ≤ most_lower) where
+  pub settled_chosen : trial_of k p P ≡ trial.Settled → made k mark.Settled p P ≡ chosen_index p P
+  settled_chosen e =
+      let t = tried k p P least most true e in
+      sym (marked_settled k p P t.marked) ∙ ap (λ (n : ℕ). marked_of n p P) (only_one p k few t.bracket)
+
+  pub near_chosen : trial_of k p P ≡ trial.Near → made (k + 1) mark.Near p P ≡ chosen_index p P
+  near_chosen e =
+      let t = tried k p P least most false e in
+      sym (marked_near k p P t.marked) ∙ ap (λ (n : ℕ). marked_of n p P) (only_one p k few t.bracket)

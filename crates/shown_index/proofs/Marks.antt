@@ -1,19 +1,20 @@
 -- What the chosen mark says is shown by p and P; and a smaller p and a smaller P give no greater index.
-use Prim.Native.Nat.{ℕ, ◌+◌, ◌*◌, ◌-◌, ◌^◌, ◌≤◌}
-use mathlib.Core.Path.{◌≡◌, refl, subst}
+use Prim.Native.Nat.{ℕ, ◌+◌, ◌*◌, ◌-◌, ◌^◌, ◌≤◌, ◌<◌}
+use mathlib.Core.Path.{◌≡◌, refl, sym, subst}
 use mathlib.Core.Bool.{Bool, true, false, cond}
 use native.Mathlib.Omega.{arith}
 use Rattle.laws.proofs.Contradiction.{both_ways}
 use Rattle.laws.proofs.Order.{by_order}
 use Rattle.shown_index.specs.declared.Mark.TheVariants as mark
+use Rattle.shown_index.specs.declared.search.Trial.TheVariants as trial
 use Rattle.shown_index.specs.declared.ByB.{ByB}
 use Rattle.shown_index.specs.Preconditions.{least_r}
 use Rattle.logarithm.specs.Fractions.{Q}
-use Rattle.shown_index.specs.Terms.{c, most_index}
+use Rattle.shown_index.specs.Terms.{c, least_index, most_index}
 use Rattle.shown_index.specs.RightIndex.{IndexBetween, RightIndex}
-use Rattle.shown_index.specs.ChosenIndex.{most_lower, shows_least, shows_most, whole_of, made, marked_of, chosen_index}
+use Rattle.shown_index.specs.ChosenIndex.{most_lower, shows_least, shows_most, whole_of, made, marked_of, chosen_index, trial_of}
 use Rattle.shown_index.proofs.Shows.{least_shows, most_shows, beside_least, beside_most, most_easier}
-use Rattle.shown_index.proofs.Halving.{Bracket, no_more, whole}
+use Rattle.shown_index.proofs.Halving.{Bracket, no_more, whole, settled_chosen}
 
 -- ---- the mark is right, for a k found for p
 
@@ -50,6 +51,11 @@ module _ (p P k : ℕ) (few : p ≤ most_lower) (next : P ≤ p + 2) (b : Bracke
 
 pub right_index : (p P : ℕ) → p ≤ most_lower → P ≤ p + 2 → RightIndex (chosen_index p P)
 right_index p P few next = marked_right p P (whole_of p) few next (whole p few)
+
+pub settled_right :
+    (k p P : ℕ) → least_index ≤ k → k < most_index → p ≤ most_lower → P ≤ p + 2 → trial_of k p P ≡ trial.Settled
+    → RightIndex (made k mark.Settled p P)
+settled_right k p P least most few next e = subst RightIndex (sym (settled_chosen k p P least most few e)) (right_index p P few next)
 
 -- ---- p and P are the record's, whatever the mark
 

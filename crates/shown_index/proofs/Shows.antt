@@ -6,7 +6,6 @@ use mathlib.Core.Bool.{true, false}
 use mathlib.Core.Logic.{⊎_elim}
 use native.Mathlib.Omega.{arith}
 use native.Mathlib.Nat.{eq-or-lt_of_le}
-use lib.Dec.{leb}
 use borrow.Author.Tests.{leb-true, leb-false, le-leb, lt-leb}
 use Rattle.laws.proofs.Powers.{pow_one, pow_mul}
 use Rattle.logarithm.specs.Scale.{scale, scale_number, width, log10, log10000000}
@@ -69,35 +68,13 @@ pub true_most : (P r : ℕ) → (log10 + 1) * P + (log10000000 + 1) * Q_number �
 unfolding shows_most
 true_most P r h = le-leb _ _ h
 
--- ---- the tests from a logarithm that the code has found
+-- ---- what trying k says, where k is settled
 
-pub least_is : (p r lc : ℕ) → lc ≡ log2_of (c r) → leb ((lc + width) * Q_number) (log10 * p + log10000000 * Q_number) ≡ shows_least p r
-unfolding shows_least
-least_is p r lc e = ap (λ (l : ℕ). leb ((l + width) * Q_number) (log10 * p + log10000000 * Q_number)) e
-
-pub most_is : (P r lc : ℕ) → lc ≡ log2_of (c r) → leb ((log10 + 1) * P + (log10000000 + 1) * Q_number) (lc * Q_number) ≡ shows_most P r
-unfolding shows_most
-most_is P r lc e = ap (λ (l : ℕ). leb ((log10 + 1) * P + (log10000000 + 1) * Q_number) (l * Q_number)) e
-
--- ---- what trying k says
-
-module _ (k p P : ℕ) where
-  pub trial_higher : shows_least p (100 * k + 50) ≡ true → trial_of k p P ≡ trial.Higher
-  unfolding trial_of
-  trial_higher a = rw a
-
-  module _ (a : shows_least p (100 * k + 50) ≡ false) where
-    pub trial_lower : shows_least p (100 * k - 50) ≡ false → trial_of k p P ≡ trial.Lower
-    unfolding trial_of
-    trial_lower b = rw (a, b)
-
-    pub trial_settled : shows_least p (100 * k - 50) ≡ true → shows_most P (100 * k + 50) ≡ true → trial_of k p P ≡ trial.Settled
-    unfolding trial_of
-    trial_settled b d = rw (a, b, d)
-
-    pub trial_near : shows_least p (100 * k - 50) ≡ true → shows_most P (100 * k + 50) ≡ false → trial_of k p P ≡ trial.Near
-    unfolding trial_of
-    trial_near b d = rw (a, b, d)
+pub trial_settled :
+    (k p P : ℕ) → shows_least p (100 * k + 50) ≡ false → shows_least p (100 * k - 50) ≡ true → shows_most P (100 * k + 50) ≡ true
+    → trial_of k p P ≡ trial.Settled
+unfolding trial_of
+trial_settled k p P a b d = rw (a, b, d)
 
 -- ---- a greater p shows a smaller index too, and a smaller P shows the same
 

@@ -2,10 +2,9 @@
 ghost use Rattle.std.specs.Prelude.{◌<◌, ◌≤◌, ◌+◌};
 ghost use Rattle.logarithm.specs.Fractions.{Q_number};
 ghost use Rattle.shown_index.specs.Terms.{least_index, most_index};
-ghost use Rattle.shown_index.specs.ChosenIndex.{most_lower};
 
 use crate::compare::{C_AT_100, C_PER_HUNDREDTH};
-use crate::{LEAST_INDEX, MOST_INDEX};
+use crate::{Fractions, LEAST_INDEX, MOST_INDEX};
 use logarithm::Q;
 
 // One multiplication and addition of the polynomials below: a + v · f, f in units of 1 / Q. a is below 2^33 and v below 2^34, so that the
@@ -34,11 +33,10 @@ const C_GROWTH: u64 = 100 * C_PER_HUNDREDTH;
 
 // A guess of k from p: 10^(p / Q) as a power of two, then the index at it, rounded. 217,706 / 2^16 is close to log2 10. k stays a number here and in
 // `search`: it is reckoned with at each use (100 · k + 50, k + 1), so that a type around it would be taken apart everywhere.
-pub fn guess(p: u64) -> u64
-    requires { p ≤ most_lower }
+pub fn guess(n: Fractions) -> u64
     ensures { (least_index ≤ result) × (result < most_index) }
 {
-    let z = p * 217_706 / 65_536;
+    let z = n.lower * 217_706 / 65_536;
     let c = (C_AT_100 * power_of_two(z % Q) / 4_294_967_296) << (z / Q % 8);
     if c < C_AT_100 {
         return LEAST_INDEX;

@@ -42,6 +42,7 @@ pub struct ByB {
 }
 
 // The index that two fractions show, by the table of thresholds where it tells.
+#[tactic(auto, using(crate::proofs::Halving::settled_chosen, crate::proofs::Marks::right_index, crate::proofs::Marks::settled_right))]
 pub fn index_of_fractions(n: Fractions) -> ByB
     ensures value { result ≡ chosen_index n.lower n.upper }
     ensures right { RightIndex result }

@@ -4,7 +4,7 @@ use Rattle.shown_index.proofs.Halving.{Bracket}
 use Rattle.shown_index.proofs.search.search.Given as goal
 
 abbrev pub invariant-loop-lo : goal.invariant-loop-lo
-invariant-loop-lo l = Bracket l.p l.lo l.hi
+invariant-loop-lo l = Bracket l.n.lower l.lo l.hi
 
 abbrev pub decreases-loop-lo : goal.decreases-loop-lo
 decreases-loop-lo l = l.hi - l.lo
