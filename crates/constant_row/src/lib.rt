@@ -17,7 +17,7 @@ const NOT_A_ROW: u32 = 5;
 const ANSWERED: u32 = 0;
 
 // Fills a row with the constant at a temperature. A row that is not just three numbers is left as it is, and 5 is answered; a refusal leaves it as it
-// is too.
+// is too. v and d are the plain numbers that C hands over, and the row is the memory that it lends.
 #[tactic(auto, unfolding(crate::specs::ConstantCall::row_number, crate::specs::ConstantCall::row_after))]
 pub fn fill_row(t: Temperature, v: u32, d: u32, row: &mut [i32]) -> u32
     ensures number { result ≡ row_number row.old t v d }

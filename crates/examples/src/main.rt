@@ -27,7 +27,7 @@ where
     answer.map_err(u8::from)
 }
 
-// L or H, in units of 10^-10 mm²/s; None where y is refused.
+// L or H, in units of 10^-10 mm²/s; None where y is refused. One function with the field for a parameter would be no plainer: it would be a closure at each call.
 fn l_of(y: u32) -> Option<u64> {
     answer_basis(y).ok().map(|basis| basis.l)
 }

@@ -41,7 +41,8 @@ fn answer_at(fractions: Fractions, density: Density) -> Result<Constant, Refusal
     }
 }
 
-// The constant's operation: the answer to any viscosity at either temperature and any density.
+// The constant's operation: the answer to any viscosity at either temperature and any density. v and d are plain numbers until the questions are asked, as
+// they are in C.
 pub fn answer_constant(t: Temperature, v: u32, d: u32) -> Result<Constant, Refusal>
     ensures value { result ≡ answer_of t v d }
     ensures right { RightConstant t v d result }

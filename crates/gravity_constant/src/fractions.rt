@@ -16,7 +16,8 @@ const QUARTER_Q: u64 = Q / 4;
 
 const QUARTER_LOG_10: u64 = (LOG_10 + 1) / 4;
 
-// The two fractions of a viscosity at that temperature, by the lower n.
+// The two fractions of a viscosity at that temperature, by the lower n. Of one type with `Fraction` they would be no plainer: that type would have to leave
+// room for an upper n, which the upper fraction has not.
 #[derive(Clone, Copy, Debug)]
 pub struct Fractions {
     pub temperature: Temperature,

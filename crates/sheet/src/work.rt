@@ -9,7 +9,8 @@ use crate::layout::*;
 use crate::{Blocks, Pair};
 use answer_record::{number_at, write_result};
 
-// Pair i of those that begin at `pairs`. An inner function, for callers that know its bytes to be there.
+// Pair i of those that begin at `pairs`. An inner function, for callers that know its bytes to be there. C lends the sheet as bytes: what stands where in
+// them is document 01's, so that the offset goes beside them.
 pub fn pair_at(sheet: &[u8], pairs: usize, i: usize) -> Pair
     requires { pairs + pair_size * i + pair_size ≤ length sheet.now }
     ensures { (result.u ≡ u_at sheet.now pairs i) × (result.y ≡ y_at sheet.now pairs i) }

@@ -59,7 +59,7 @@ fn outcome_by(number: u8, method: u8, index: i32) -> ArrayString<OUTCOME_WIDTH>
     }
 }
 
-// The outcome of the pair whose record begins at `from`.
+// The outcome of the pair whose record begins at `from`: the sheet is bytes that document 01 lays out, so that the offset goes beside them.
 fn outcome_at(sheet: &[u8], from: usize) -> ArrayString<OUTCOME_WIDTH>
     requires { from + result_size ≤ length sheet.now }
     ensures { result.bytes ≡ outcome_at sheet.now from }

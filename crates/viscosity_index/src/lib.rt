@@ -1,5 +1,5 @@
 // What C calls: the pair and the sheet operation on numbers and bytes, the viscosity-gravity constant on numbers, and the tray on lent memories. The header
-// is include/viscosity_index.h. C reads what is answered: a refusal is its number here.
+// is include/viscosity_index.h. C reads what is answered: a refusal is its number here. And C hands over plain numbers and lent memories, each by itself.
 #![tactic(auto)]
 
 ghost use Rattle.std.specs.Prelude.{◌≡◌};
