@@ -19,9 +19,9 @@ pub struct Constant {
 // The constant of a density, from the lower n: with signs.
 #[tactic(auto, unfolding(crate::specs::Chosen::constant_at))]
 fn constant_at(fractions: Fractions, density: Density) -> Constant
-    ensures { result ≡ constant_at fractions.temperature density fractions.n }
+    ensures { result ≡ constant_at fractions.lower.temperature density fractions.lower.n }
 {
-    let lower = fractions.lower();
+    let lower = fractions.lower;
     Constant {
         thousandths: signed_difference(lower.count(density), THOUSANDTHS),
         lower: signed_difference(lower.n, N_OF_ZERO),
@@ -32,9 +32,9 @@ fn constant_at(fractions: Fractions, density: Density) -> Constant
 // The answer from the lower n: question 23, of both fractions, then the constant.
 #[tactic(auto, unfolding(crate::specs::Chosen::answer_at))]
 fn answer_at(fractions: Fractions, density: Density) -> Result<Constant, Refusal>
-    ensures { result ≡ answer_at fractions.temperature density fractions.n }
+    ensures { result ≡ answer_at fractions.lower.temperature density fractions.lower.n }
 {
-    if fractions.lower().divides() && fractions.upper().divides() {
+    if fractions.lower.divides() && fractions.upper().divides() {
         Ok(constant_at(fractions, density))
     } else {
         Err(Refusal::DivisorNotAboveZero)

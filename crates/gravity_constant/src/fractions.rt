@@ -5,7 +5,7 @@ ghost use Rattle.logarithm.specs.Scale.{log10};
 ghost use Rattle.gravity_constant.specs.Chosen.{apart, most_digits, most_upper, lower_from, lower_of};
 
 use crate::formula::Fraction;
-use crate::questions::{Temperature, Viscosity};
+use crate::questions::Viscosity;
 use logarithm::{LOG_10, Q};
 
 // How far the upper n is above the lower one: so far that the width of a logarithm and the rounding of both never reach it.
@@ -16,13 +16,11 @@ const QUARTER_Q: u64 = Q / 4;
 
 const QUARTER_LOG_10: u64 = (LOG_10 + 1) / 4;
 
-// The two fractions of a viscosity at that temperature, by the lower n. Of one type with `Fraction` they would be no plainer: that type would have to leave
-// room for an upper n, which the upper fraction has not.
+// The two fractions of a viscosity: the lower one, which leaves room for the upper n.
 #[derive(Clone, Copy, Debug)]
 pub struct Fractions {
-    pub temperature: Temperature,
-    pub n: u64,
-    ghost within: { n + apart ≤ most_upper temperature },
+    pub lower: Fraction,
+    ghost room: { lower.n + apart ≤ most_upper lower.temperature },
 }
 
 // From the logarithm to the base 2 to the lower n: rounded down, with log2(10) rounded up.
@@ -37,29 +35,21 @@ fn lower_from(l: u64) -> u64
 impl Fractions {
     #[tactic(auto, unfolding(crate::specs::Chosen::lower_of))]
     pub fn new(viscosity: Viscosity) -> Self
-        ensures { (result.temperature ≡ viscosity.temperature) × (result.n ≡ lower_of viscosity.temperature viscosity.thousandths) }
+        ensures { (result.lower.temperature ≡ viscosity.temperature) × (result.lower.n ≡ lower_of viscosity.temperature viscosity.thousandths) }
     {
-        Fractions {
+        let lower = Fraction {
             temperature: viscosity.temperature,
             n: lower_from(logarithm::log2_scaled(viscosity.argument())),
-        }
-    }
-
-    pub fn lower(self) -> Fraction
-        ensures { (result.temperature ≡ self.temperature) × (result.n ≡ self.n) }
-    {
-        Fraction {
-            temperature: self.temperature,
-            n: self.n,
-        }
+        };
+        Fractions { lower }
     }
 
     pub fn upper(self) -> Fraction
-        ensures { (result.temperature ≡ self.temperature) × (result.n ≡ self.n + apart) }
+        ensures { (result.temperature ≡ self.lower.temperature) × (result.n ≡ self.lower.n + apart) }
     {
         Fraction {
-            temperature: self.temperature,
-            n: self.n + APART,
+            temperature: self.lower.temperature,
+            n: self.lower.n + APART,
         }
     }
 }
