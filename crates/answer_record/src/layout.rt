@@ -13,8 +13,3 @@ pub const INDEX_AT: usize = 4;
 pub const LOWER_AT: usize = 8;
 
 pub const UPPER_AT: usize = 12;
-
-// The index in two's complement: the first 32-bit number that stands for one below zero, and the last, which stands for -1.
-pub const FIRST_NEGATIVE: u32 = 0x8000_0000;
-
-pub const LAST_NEGATIVE: u32 = 0xFFFF_FFFF;

@@ -1,12 +1,12 @@
 -- A proof by cases on a test and on the order of two numbers, when two tests of an order are one, and that a quotient keeps an order.
 use Prim.Native.Nat.{ℕ, ◌/◌, ◌<◌, ◌≤◌}
-use mathlib.Core.Path.{◌≡◌, refl, ◌∙◌, sym}
+use mathlib.Core.Path.{◌≡◌, refl}
 use mathlib.Core.Bool.{Bool, true, false}
 use mathlib.Core.Logic.{⊎_elim}
-use lib.Dec.{ltb, leb}
+use lib.Dec.{ltb}
 use native.Mathlib.Omega.{arith}
 use native.Mathlib.Nat.{div-mul-le_self, le-div_iff_mul-le, div-zero, le_trans, eq-zero-or-pos}
-use borrow.Author.Tests.{ltb-true, ltb-false, le-leb, lt-leb}
+use borrow.Author.Tests.{ltb-true, ltb-false}
 
 pub by_test : {P : Type 0} (b : Bool) → (b ≡ true → P) → (b ≡ false → P) → P
 by_test true f g = f refl
@@ -14,12 +14,6 @@ by_test false f g = g refl
 
 pub by_order : {P : Type 0} (a b : ℕ) → (a < b → P) → (b ≤ a → P) → P
 by_order a b f g = by_test (ltb a b) (λ e. f (ltb-true a b e)) (λ e. g (ltb-false a b e))
-
-pub leb_same : (a b c d : ℕ) → (a ≤ b → c ≤ d) → (c ≤ d → a ≤ b) → leb a b ≡ leb c d
-leb_same a b c d f g =
-    by_order b a
-    (λ l. lt-leb a b l ∙ sym (lt-leb c d (by_order d c (λ m. m) (λ m. let n : a ≤ b = g m in absurd (omega arith)))))
-    (λ l. le-leb a b l ∙ sym (le-leb c d (f l)))
 
 pub quotient_le : (a b d : ℕ) → a ≤ b → a / d ≤ b / d
 quotient_le a b d h =

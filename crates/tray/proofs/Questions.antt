@@ -5,8 +5,8 @@ use mathlib.Core.Bool.{Bool, false, cond}
 use mathlib.Core.List.{List}
 use native.Mathlib.Omega.{arith}
 use native.Mathlib.Nat.{le_of_eq}
-use borrow.Author.Tests.{lt-ltb, le-ltb, eq-eqb, ne_eqb}
-use lib.Dec.{eqb, ltb}
+use borrow.Author.Tests.{lt-ltb, le-ltb, lt-leb, le-leb, eq-eqb, ne_eqb}
+use lib.Dec.{eqb, ltb, leb}
 use lib.ListN.{length}
 use Rattle.std.specs.Prelude.{Result, Ok, Err}
 use Rattle.laws.specs.Questions.{ask}
@@ -28,7 +28,7 @@ use Rattle.tray_places.specs.Samples.{place_of}
 use Rattle.tray_places.proofs.Found.{some_free, none_free, number_held, number_not_held}
 use Rattle.tray.specs.declared.refusal.Refusal.{Refusal}
 use Rattle.tray.specs.declared.refusal.Refusal.TheVariants.{NotATray, Pair, NumberHeld, TrayFull, NumberNotHeld}
-use Rattle.tray.specs.Tray.{not_a_tray, held_refusal, full_refusal, not_held_refusal, number_of_refusal, refusal_of, answered, held_as, sample_with, tray_with, as_put, hold_refusal, tray_holding, hold_answer, put_refusal, put_answer, tray_after_put, take_refusal, take_answer, tray_after_take}
+use Rattle.tray.specs.Tray.{not_a_tray, held_refusal, full_refusal, not_held_refusal, number_of_refusal, refusal_of, or_else, answered, held_as, sample_with, tray_with, as_put, hold_refusal, tray_holding, hold_answer, put_refusal, put_answer, tray_after_put, take_refusal, take_answer, tray_after_take}
 
 some : (k : ℕ) → 0 < k → eqb k 0 ≡ false
 some k p = ne_eqb k 0 (λ (z : k ≡ 0). omega arith)
@@ -83,9 +83,6 @@ module _ (l : List ℕ) (n : ℕ) where
   unfolding hold_refusal
   no_pair k p = ap (λ (b : Bool). cond b (by_31 (eqb (held_as l n) 0)) k) (some k p)
 
-  pub pair_none : (k : ℕ) → hold_refusal l n k ≡ 0 → k ≡ 0
-  pair_none k e = by_order 0 k (λ p. absurd (omega (arith, no_pair k p))) (λ z. omega arith)
-
   pub no_31 : 0 < held_as l n → hold_refusal l n 0 ≡ held_refusal
   unfolding hold_refusal
   no_31 h = ap by_31 (some (held_as l n) h)
@@ -98,7 +95,27 @@ module _ (l : List ℕ) (n : ℕ) where
   unfolding hold_refusal
   room h k = ap by_31 (eq-eqb (held_as l n) 0 h) ∙ ap (λ (b : Bool). ask b full_refusal 0) (lt-ltb (length (held_in l)) places k)
 
-  -- ---- holding a place, by places as the code asks
+  -- by places, as the code asks: the place where the number is held, and the first free one
+  abbrev first_no : ℕ → ℕ → ℕ → ℕ
+  first_no k at free = or_else k (ask (leb places at) held_refusal (ask (ltb free places) full_refusal 0))
+
+  is_new : eqb (held_as l n) 0 ≡ leb places (place_of_number l n)
+  is_new =
+      by_order (place_of_number l n) places
+      (λ h. some (held_as l n) (number_held l n h) ∙ sym (lt-leb places (place_of_number l n) h))
+      (λ h. eq-eqb (held_as l n) 0 (number_not_held l n h) ∙ sym (le-leb places (place_of_number l n) h))
+
+  is_room : ltb (length (held_in l)) places ≡ ltb (free_place l) places
+  is_room =
+      by_order (free_place l) places
+      (λ h. lt-ltb (length (held_in l)) places (some_free l h) ∙ sym (lt-ltb (free_place l) places h))
+      (λ h. le-ltb (length (held_in l)) places (le_of_eq (sym (none_free l h))) ∙ sym (le-ltb (free_place l) places h))
+
+  by_places : (k : ℕ) → first_no k (place_of_number l n) (free_place l) ≡ hold_refusal l n k
+  unfolding hold_refusal
+  by_places k = rw (is_new, is_room)
+
+  -- ---- holding a place
 
   module _ (place : Place) where
     hold_by : (k : ℕ) → hold_refusal l n 0 ≡ k → 0 < k → (Err (refusal_of k) ≡ hold_answer l n) × (l ≡ tray_holding l n 0 place)
@@ -106,17 +123,17 @@ module _ (l : List ℕ) (n : ℕ) where
     hold_by k e p = (rw (e, some k p), rw (e, some k p))
 
     pub hold_31 : place_of_number l n < places → (Err NumberHeld ≡ hold_answer l n) × (l ≡ tray_holding l n 0 place)
-    hold_31 h = hold_by held_refusal (no_31 (number_held l n h)) (omega arith)
+    hold_31 h = hold_by held_refusal (sym (by_places 0) ∙ rw (lt-leb places (place_of_number l n) h)) (omega arith)
 
     pub hold_32 : places ≤ place_of_number l n → places ≤ free_place l → (Err TrayFull ≡ hold_answer l n) × (l ≡ tray_holding l n 0 place)
-    hold_32 h k = hold_by full_refusal (no_32 (number_not_held l n h) (le_of_eq (sym (none_free l k)))) (omega arith)
+    hold_32 h k = hold_by full_refusal (sym (by_places 0) ∙ rw (le-leb places (place_of_number l n) h, le-ltb (free_place l) places k)) (omega arith)
 
     pub hold_held : {i : ℕ} {m : List ℕ} → places ≤ place_of_number l n → (i ≡ free_place l) × (i < places) → m ≡ stored l (place_size * i) (numbers_of place)
         → (Ok tt ≡ hold_answer l n) × (m ≡ tray_holding l n 0 place)
     unfolding hold_answer tray_holding
     hold_held {i} {m} h f s =
         let free : free_place l < places = omega (arith, f.0, f.1) in
-        let none : hold_refusal l n 0 ≡ 0 = room (number_not_held l n h) (some_free l free) in
+        let none : hold_refusal l n 0 ≡ 0 = sym (by_places 0) ∙ rw (le-leb places (place_of_number l n) h, lt-ltb (free_place l) places free) in
         (rw none, rw none (rw f.0 at s))
 
   -- ---- putting in
