@@ -18,29 +18,39 @@ pub struct Oil {
     pub h: u64,
 }
 
-// p, from the logarithms of y, U and H: N rounded down, with every logarithm on the side that makes it smaller.
-#[tactic(auto, unfolding(crate::specs::ChosenFractions::lower_from))]
-fn lower_numerator(ly: u64, lu: u64, lh: u64) -> u64
-    requires { InBounds ly lu lh }
-    ensures { result ≡ lower_from ly lu lh }
-{
-    if lh <= lu + WIDTH {
-        return 0;
-    }
-    Q * (lh - (lu + WIDTH)) / (ly + WIDTH - LOG_1000)
+// The logarithms of y, U and H, each at or below its value, by at most WIDTH.
+#[derive(Clone, Copy, Debug)]
+struct Logarithms {
+    y: u64,
+    u: u64,
+    h: u64,
+    ghost bounds: { InBounds y u h },
 }
 
-// P: the first after p that is not below N, with every logarithm on the side that makes N greater. It is p + 1 or p + 2, so one product
-// tells, and no second division is needed.
-#[tactic(auto, using(crate::proofs::Numerators::lower_small), unfolding(crate::specs::ChosenFractions::upper_from))]
-fn upper_numerator(ly: u64, lu: u64, lh: u64, p: u64) -> u64
-    requires { InBounds ly lu lh × (p ≡ lower_from ly lu lh) }
-    ensures { result ≡ upper_from ly lu lh p }
-{
-    if Q * (lh + WIDTH - lu) <= (p + 1) * (ly - (LOG_1000 + 1)) {
-        return p + 1;
+impl Logarithms {
+    // p: N rounded down, with every logarithm on the side that makes it smaller.
+    #[tactic(auto, unfolding(crate::specs::ChosenFractions::lower_from))]
+    fn lower_numerator(self) -> u64
+        ensures { result ≡ lower_from self.y self.u self.h }
+    {
+        if self.h <= self.u + WIDTH {
+            return 0;
+        }
+        Q * (self.h - (self.u + WIDTH)) / (self.y + WIDTH - LOG_1000)
     }
-    p + 2
+
+    // P: the first after p that is not below N, with every logarithm on the side that makes N greater. It is p + 1 or p + 2, so one product
+    // tells, and no second division is needed.
+    #[tactic(auto, using(crate::proofs::Numerators::lower_small), unfolding(crate::specs::ChosenFractions::upper_from))]
+    fn upper_numerator(self, p: u64) -> u64
+        requires { p ≡ lower_from self.y self.u self.h }
+        ensures { result ≡ upper_from self.y self.u self.h p }
+    {
+        if Q * (self.h + WIDTH - self.u) <= (p + 1) * (self.y - (LOG_1000 + 1)) {
+            return p + 1;
+        }
+        p + 2
+    }
 }
 
 // p and P of an oil below H.
@@ -49,11 +59,13 @@ fn fractions_of(oil: Oil) -> Fractions
     requires { OilBelowH oil }
     ensures { FoundFractions oil.u oil.y result.lower result.upper }
 {
-    let ly = logarithm::log2_scaled(u64::from(oil.y));
-    let lu = logarithm::log2_scaled(reference::in_units(oil.u));
-    let lh = logarithm::log2_scaled(oil.h);
-    let lower = lower_numerator(ly, lu, lh);
-    let upper = upper_numerator(ly, lu, lh, lower);
+    let logs = Logarithms {
+        y: logarithm::log2_scaled(u64::from(oil.y)),
+        u: logarithm::log2_scaled(reference::in_units(oil.u)),
+        h: logarithm::log2_scaled(oil.h),
+    };
+    let lower = logs.lower_numerator();
+    let upper = logs.upper_numerator(lower);
     Fractions { lower, upper }
 }
 

@@ -23,10 +23,11 @@ mod table1;
 // ---- the two viscosities, and the questions about one of them
 //
 // Two types and not a generic one: Kv100 is asked two questions and Kv40 one, each with a refusal of its own, so that of a common type only the number
-// would be left.
+// would be left. Document 01 asks for
+// a constructor: that is `new`, and a `TryFrom` beside it would say the same once more.
 
 // A kinematic viscosity at 100 °C within its limits, in thousandths of a mm²/s.
-#[derive(Clone, Copy, Debug, PartialEq, Eq, PartialOrd, Ord)]
+#[derive(Clone, Copy, Debug, PartialEq, Eq)]
 pub struct Kv100 {
     pub thousandths: u32,
 }
@@ -66,7 +67,7 @@ impl Kv100 {
 }
 
 // A kinematic viscosity at 40 °C within its limits, in thousandths of a mm²/s.
-#[derive(Clone, Copy, Debug, PartialEq, Eq, PartialOrd, Ord)]
+#[derive(Clone, Copy, Debug, PartialEq, Eq)]
 pub struct Kv40 {
     pub thousandths: u32,
 }
@@ -134,7 +135,8 @@ fn locate(y: u32) -> Place
     find_row(y).place
 }
 
-// Where L and H at y are found: at a place of Table 1, or, above its last row, at none: there the quadratics give them. An inner function.
+// Where L and H at y are found: at a place of Table 1, or, above its last row, at none: there the quadratics give them. An inner function. y is a plain number: a
+// `Kv100` is at most 500,000, which nothing here asks.
 pub fn source_of(y: u32) -> Option<Place>
     requires { least100 ≤ y }
     ensures { result ≡ source_of y }

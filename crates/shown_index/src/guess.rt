@@ -8,7 +8,8 @@ use crate::{Fractions, LEAST_INDEX, MOST_INDEX};
 use logarithm::Q;
 
 // One multiplication and addition of the polynomials below: a + v · f, f in units of 1 / Q. a is below 2^33 and v below 2^34, so that the
-// product fits 64 bits.
+// product fits 64 bits. Both polynomials are written out step by step: one function over a list of coefficients would be no plainer, since it would ask of the
+// list what is seen of each step, that the next v is below 2^34.
 fn multiply_add(a: u64, v: u64, f: u64) -> u64
     requires { (a < 8589934592) × (v < 17179869184) × (f < Q_number) }
     ensures { (a ≤ result) × (result ≤ a + v) }
@@ -31,8 +32,9 @@ fn power_of_two(f: u64) -> u64
 // By how much c grows from one whole index to the next.
 const C_GROWTH: u64 = 100 * C_PER_HUNDREDTH;
 
-// A guess of k from p: 10^(p / Q) as a power of two, then the index at it, rounded. 217,706 / 2^16 is close to log2 10. k stays a number here and in
-// `search`: it is reckoned with at each use (100 · k + 50, k + 1), so that a type around it would be taken apart everywhere.
+// A guess of k from p: 10^(p / Q) as a power of two, then the index at it, rounded. 217,706 / 2^16 is close to log2 10. k stays a number in
+// this crate, beside the fractions too: it is reckoned with at each use (100 · k + 50, k + 1, k − 100), so that a type around it would be taken apart
+// everywhere.
 pub fn guess(n: Fractions) -> u64
     ensures { (least_index ≤ result) × (result < most_index) }
 {

@@ -13,7 +13,7 @@ const GREATEST_SETTLED: u64 = 611;
 
 const LAST_THRESHOLD: u64 = 11_209_315;
 
-// Do two entries of the table tell that k is settled? They do for most oils up to GREATEST_SETTLED; a no says nothing.
+// Do two entries of the table tell that k is settled? They do for most oils up to GREATEST_SETTLED; a no says nothing. The table is not searched: k is guessed.
 #[tactic(auto, using(crate::proofs::ThresholdEntries::settled_by_thresholds), unfolding(crate::specs::ThresholdTable::threshold_table))]
 fn settled_by_thresholds(k: u64, n: Fractions) -> bool
     requires { least_index ≤ k }

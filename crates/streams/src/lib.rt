@@ -45,8 +45,3 @@ pub fn write_output(rt: &(impl Print + Eprint), bytes: &[u8]) {
         say_why(rt, "standard output", why);
     }
 }
-
-// Writes a line to standard error.
-pub fn say(rt: &impl Eprint, line: &str) {
-    let _ = eprintln!(rt; "{line}");
-}

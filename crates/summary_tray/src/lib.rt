@@ -29,7 +29,7 @@ pub fn hold(tray: &mut [u32; TRAY_SIZE], number: u32, place: Place) -> Result<()
     Ok(())
 }
 
-// Puts a sample in: the pair's index.
+// Puts a sample in: the pair's index. The number, u and y are plain numbers, as in `tray::put`.
 pub fn put(tray: &mut [u32], number: u32, u: u32, y: u32) -> Result<Index, Refusal>
     ensures answer { result ≡ put_answer tray.old number u y }
     ensures numbers { tray.new ≡ tray_after_put tray.old number u y }

@@ -1,5 +1,6 @@
 // The fields of a printed line: which bytes are a number, a viscosity, an index, a word? Each function answers one as a text of its own, which lies in
-// the value itself: nothing is allocated, and the greatest width of the field is the text's capacity.
+// the value itself: nothing is allocated, and the greatest width of the field is the text's capacity. It is put together by `push_str`: `Display` and `write!`
+// would be no plainer, since they answer a `fmt::Result`, of which no clause says that it is `Ok` where there is room.
 #![tactic(auto)]
 
 ghost use Rattle.std.specs.Prelude.{◌≡◌, ◌+◌, ◌≤◌, ◌++◌, length};
@@ -22,7 +23,7 @@ fn digit(n: u32) -> ArrayString<1>
     ensures { result.bytes ≡ digit n }
 {
     let mut text = ArrayString::new();
-    text.push((b'0' + (n % 10) as u8) as char);
+    text.push(char::from_digit(n % 10, 10).unwrap());
     text
 }
 
@@ -36,7 +37,7 @@ pub fn decimal(n: u32) -> ArrayString<NUMBER_WIDTH>
     text
 }
 
-// A viscosity of x thousandths, with three decimals: digit by digit, since the library's digits leave out zeros at the front.
+// A viscosity of x thousandths, with three decimals: digit by digit, since itoa leaves out zeros at the front, and `{:03}` is one of `write!`.
 #[tactic(auto, using(crate::proofs::Digits::digits_of_whole), unfolding(crate::specs::Fields::viscosity))]
 pub fn viscosity(x: u32) -> ArrayString<VISCOSITY_WIDTH>
     ensures { result.bytes ≡ viscosity x }
@@ -50,7 +51,8 @@ pub fn viscosity(x: u32) -> ArrayString<VISCOSITY_WIDTH>
     text
 }
 
-// An index, with a minus sign where it is below zero. Of one type with `decimal` it would be no plainer: its width and its definition are others.
+// An index, with a minus sign where it is below zero. As one function with `decimal` it would be no plainer: its clause would speak of what the library prints of
+// any number, and each caller would have to cite that this is document 01's `decimal` or `signed_decimal`.
 #[tactic(auto, using(crate::proofs::Digits::signed_as_printed))]
 pub fn signed_decimal(index: i32) -> ArrayString<INDEX_WIDTH>
     ensures { result.bytes ≡ signed_decimal index }

@@ -37,7 +37,7 @@ pub fn first_line(n: u32) -> ArrayString<FIRST_LINE_WIDTH>
     ended(worded("pairs", &decimal(n)))
 }
 
-// The line of a refused sheet: "sheet refused" and its number.
+// The line of a refused sheet: "sheet refused" and its number, any number of one byte: a `Refusal` would be narrower, and ask more of the caller.
 #[tactic(auto, using(crate::proofs::Widths::digits_of_byte), unfolding(crate::specs::Lines::refused_line))]
 pub fn refused_line(number: u8) -> ArrayString<REFUSED_LINE_WIDTH>
     ensures { result.bytes ≡ refused_line number }

@@ -30,8 +30,8 @@ pub fn hold(tray: &mut [u32; TRAY_SIZE], number: u32, place: Place) -> Result<()
     Ok(())
 }
 
-// Puts a sample in: the pair's index. The number, u and y are plain numbers until the questions are asked, as C hands them over beside the tray that it lends: a
-// type around them, in `hold` and `take` too, would be made for one call and taken apart at once.
+// Puts a sample in: the pair's index. The number, u and y are plain numbers until the questions are asked: a type around them would be no plainer, since it would
+// be made for one call and taken apart at once.
 pub fn put(tray: &mut [u32], number: u32, u: u32, y: u32) -> Result<Index, Refusal>
     ensures answer { result ≡ put_answer tray.old number u y }
     ensures numbers { tray.new ≡ tray_after_put tray.old number u y }

@@ -41,14 +41,15 @@ fn place_from(filled: &[u8; RESULT_SIZE], number: u32, u: u32, y: u32) -> Place
     }
 }
 
-// The number of a refusal as C reads it.
+// The number of a refusal as C reads it. Not a `From`, nor is `state_row`: both types of each are of other crates.
 fn number_of(refusal: Refusal) -> u32
     ensures { result ≡ number_of_refusal refusal }
 {
     u32::from(u8::from(refusal))
 }
 
-// Puts a sample in whose pair's answer stands in a record, and gives that record. An inner function, for callers that have asked the pair. The number, u, y and
+// Puts a sample in whose pair's answer stands in a record, and gives that record. An inner function, for callers that have asked the pair: what it stores and
+// gives is read back from that record, so that one function fills it, whoever asks, and the pair operation is not laid out a third time. The number, u, y and
 // what is lent are parameters here and below as C hands them over: a type around them would be made for one call and taken apart at once.
 pub fn put_answered(
     tray: &mut [u32],

@@ -18,20 +18,10 @@ pub const PLACE_SIZE: usize = 8;
 
 pub const TRAY_SIZE: usize = PLACES * PLACE_SIZE;
 
-// Where the numbers of a place stand in it.
+// Where the method and the number of a place stand in it.
 const METHOD_AT: usize = 0;
 
 const NUMBER_AT: usize = 1;
-
-const U_AT: usize = 2;
-
-const Y_AT: usize = 3;
-
-const INDEX_AT: usize = 4;
-
-const LOWER_AT: usize = 5;
-
-const UPPER_AT: usize = 6;
 
 // The method of a free place, and the number that no field has taken yet. They are plain numbers, no cases of an enum: C lends the memory, memory of zeros is the
 // empty tray, and any numbers in it are some tray.
@@ -52,14 +42,15 @@ impl From<&[u32; PLACE_SIZE]> for Place {
     ghost from_gives = { λ numbers place. place ≡ place_at numbers.now 0 };
 
     fn from(numbers: &[u32; PLACE_SIZE]) -> Place {
+        let [method, number, u, y, index, lower, upper, _spare] = *numbers;
         Place {
-            method: numbers[METHOD_AT],
-            number: numbers[NUMBER_AT],
-            u: numbers[U_AT],
-            y: numbers[Y_AT],
-            index: numbers[INDEX_AT],
-            lower: numbers[LOWER_AT],
-            upper: numbers[UPPER_AT],
+            method,
+            number,
+            u,
+            y,
+            index,
+            lower,
+            upper,
         }
     }
 }
@@ -83,7 +74,8 @@ impl From<Place> for [u32; PLACE_SIZE] {
     }
 }
 
-// Stores the numbers of a place in place i. An inner function, for callers that know the place to be there; so is the next.
+// Stores the numbers of a place in place i. An inner function, for callers that know the place to be there; so is the next. Both write into the tray
+// itself and not into one of its places as an array: what the tray is then is promised, and of `as_chunks_mut` no clause says what the memory behind it becomes.
 #[tactic(auto, using(crate::proofs::Kept::numbers_stored))]
 pub fn store_place(tray: &mut [u32], i: usize, place: Place)
     requires { place_size * i + place_size ≤ length tray.old }

@@ -4,15 +4,14 @@
 
 fn work(rt: &HostRuntime, sheet: &mut [u8]) {
     if sheet.len() > report::MOST_INPUT {
-        streams::say(rt, "not worked: the input is longer than 65,536 bytes");
+        let _ = eprintln!(rt; "not worked: the input is longer than 65,536 bytes");
         return;
     }
     match sheet::work_sheet(sheet) {
         Ok(_) => streams::write_output(rt, sheet),
-        Err(_) => streams::say(
-            rt,
-            "not worked: the sheet is refused; vi_print prints the number",
-        ),
+        Err(_) => {
+            let _ = eprintln!(rt; "not worked: the sheet is refused; vi_print prints the number");
+        }
     }
 }
 

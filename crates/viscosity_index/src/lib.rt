@@ -13,20 +13,12 @@ ghost use Rattle.viscosity_index.specs.PairCall.{pair_number, record_after, Pair
 use answer_record::layout::RESULT_SIZE;
 use gravity_constant::Temperature;
 use index::answer::number_of;
-use sheet::Refusal;
 
 // What the pair call answers where the lent record is not 16 bytes.
 const NOT_A_RECORD: u32 = 5;
 
-// The number of an answer to a sheet, 0 if it is accepted.
-fn number_of_sheet(answer: Result<u32, Refusal>) -> u32
-    ensures { result ≡ sheet_number_of answer }
-{
-    match answer {
-        Err(refusal) => u32::from(u8::from(refusal)),
-        Ok(_) => 0,
-    }
-}
+// What the sheet call answers where no question refuses.
+const ACCEPTED: u32 = 0;
 
 // The answer to a pair, as one record. A record that is not 16 bytes is left as it is, and 5 is answered.
 #[unsafe(no_mangle)]
@@ -51,8 +43,10 @@ pub extern "C" fn vi_sheet(sheet: &mut [u8]) -> u32
     ensures bytes { sheet.new ≡ sheet_after sheet.old }
     ensures demand3 { Demand3 sheet.old sheet.new }
 {
-    let answer = sheet::work_sheet(sheet);
-    number_of_sheet(answer)
+    match sheet::work_sheet(sheet) {
+        Err(refusal) => u32::from(u8::from(refusal)),
+        Ok(_) => ACCEPTED,
+    }
 }
 
 // The viscosity-gravity constant from the viscosity at 40 °C, as a row of three numbers. A row of another length is left as it is, and 5 is answered; a

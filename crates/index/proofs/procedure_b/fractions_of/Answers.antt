@@ -6,9 +6,9 @@ use Rattle.index.proofs.procedure_b.fractions_of.Goals as goal
 
 pub returns : goal.returns
 returns c =
-    pair_found c.args.oil c.requires _ _ _ (c.log2_scaled-ly.ensures.value ∙ ap log2_of c.from.ensures) (c.log2_scaled-lu.ensures.value ∙ ap log2_of c.in_units.ensures) c.log2_scaled-lh.ensures.value _ _ c.lower_numerator-lower.ensures c.upper_numerator-upper.ensures
+    pair_found c.args.oil c.requires _ _ _ (c.log2_scaled.ensures.value ∙ ap log2_of c.from.ensures) (c.log2_scaled-2.ensures.value ∙ ap log2_of c.in_units.ensures) c.log2_scaled-3.ensures.value _ _ c.lower_numerator-lower.ensures c.upper_numerator-upper.ensures
 
 pub invariant_of-result : goal.invariant_of-result
 invariant_of-result c =
-    let f = pair_found c.args.oil c.requires _ _ _ (c.log2_scaled-ly.ensures.value ∙ ap log2_of c.from.ensures) (c.log2_scaled-lu.ensures.value ∙ ap log2_of c.in_units.ensures) c.log2_scaled-lh.ensures.value _ _ c.lower_numerator-lower.ensures c.upper_numerator-upper.ensures in
+    let f = pair_found c.args.oil c.requires _ _ _ (c.log2_scaled.ensures.value ∙ ap log2_of c.from.ensures) (c.log2_scaled-2.ensures.value ∙ ap log2_of c.in_units.ensures) c.log2_scaled-3.ensures.value _ _ c.lower_numerator-lower.ensures c.upper_numerator-upper.ensures in
     record { few = f.lower_fits; order = f.order; next = f.next }
