@@ -15,7 +15,7 @@ use shown_index::Mark;
 
 // Every index is below the one and above the other: 32 bits hold it, with sign or without. They are the lowest and the highest of no answers: an Option for
 // each would be no plainer, since each answer that is joined would ask it; and a walk over a tray that carried an Option of a summary copied it 64 times, and took
-// four times as long as plain C with one sample held, where it takes as long (docs/DECISIONS.md).
+// four times as long as plain C with one sample held (docs/DECISIONS.md).
 const ABOVE_ALL: i64 = 4_294_967_296;
 
 const BELOW_ALL: i64 = -4_294_967_297;

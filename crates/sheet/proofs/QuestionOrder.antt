@@ -12,7 +12,7 @@ use Rattle.sheet.specs.declared.questions.Blocks.{Blocks}
 use Rattle.sheet.specs.Sheet.{pair_size, header_size, most_pairs, count_of, pairs_of, results_of, total_of, end_of_pairs, end_of_results, stands_within, share_no_byte, named_blocks, asked, blocks_of, sheet_number_of, sheet_refusal}
 use Rattle.std.specs.Prelude.{Result, Ok, Err}
 use Rattle.sheet.specs.declared.refusal.Refusal.{Refusal}
-use Rattle.sheet.specs.Numbers.{refusal_number}
+use Rattle.sheet.specs.Numbers.{refusal_number, NumberedQuestions}
 use Rattle.sheet.specs.declared.refusal.Refusal.TheVariants.{NoHeader, TotalNotLength, TooManyPairs, PairsOutside, ResultsOutside, BlocksShareBytes}
 
 -- the last three questions, of a sheet
@@ -24,6 +24,18 @@ results_within s = stands_within (results_of s) (end_of_results s) (total_of s)
 
 abbrev pub blocks_apart : List ℕ → Bool
 blocks_apart s = share_no_byte (pairs_of s) (end_of_pairs s) (results_of s) (end_of_results s)
+
+-- The refusals have the numbers of document 01
+pub numbered_questions : NumberedQuestions
+numbered_questions =
+    record {
+      no_header = refl;
+      total_not_length = refl;
+      too_many_pairs = refl;
+      pairs_outside = refl;
+      results_outside = refl;
+      blocks_share_bytes = refl;
+    }
 
 -- The number of a sheet is that of its first no, with the paper's numbers beside the questions. No proof cites this law; it shows that `sheet_refusal` is
 -- what the paper says

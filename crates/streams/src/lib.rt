@@ -28,8 +28,8 @@ pub fn read_input<'a>(rt: &impl Input, into: &'a mut [u8]) -> &'a mut [u8]
 {
     let mut reader = rt.reader();
     let mut count: usize = 0;
-    // The library's methods do not serve: read_to_end asks for a Vec, that is heap; after read_exact no count is known; bytes asks the system for each
-    // byte, so that vi_print took 13 ms of a sheet of 2,000 pairs, where it takes 0.9 ms.
+    // The library's methods do not serve: read_to_end asks for a Vec, that is heap; after read_exact no count is known; bytes would be no plainer, since each
+    // byte comes as a Result, to be put into its place by hand, and asks the system for each (vi_print took 13 ms of a sheet of 2,000 pairs, and takes 0.9 ms).
     while count < into.len() {
         match reader.read(&mut into[count..]) {
             Ok(0) | Err(_) => break,
