@@ -1,5 +1,4 @@
 -- The facts of arithmetic and lists that the crates lean on, each file for itself.
-pub mod BelowZero
 pub mod Computed
 pub mod Contradiction
 pub mod Difference
