@@ -9,6 +9,7 @@ use borrow.Author.Tests.{leb-true}
 use Rattle.laws.proofs.Computed.{both_pass}
 use Rattle.tray_places.specs.Places.{empty_tray}
 use Rattle.tray.specs.Calls.{Call, Put, Take, Ask, CallAnswer, ToPut, ToTake, ToAsk, after, after_all, call_answer, answers_to}
+use Rattle.summary_tray.proofs.Lists.{no_answer_moved}
 use Rattle.one_byte_tray.specs.OneByteTray as one_byte
 use Rattle.one_byte_tray.specs.SameAnswers.{up_to_255, call_up_to_255, all_up_to_255, SameAnswers}
 use Rattle.one_byte_tray.proofs.Kept.{empty_same, put_same, after_put_same, take_same, after_take_same, state_same}
@@ -41,9 +42,13 @@ left_same (call ∷ calls) h tray =
     let both = both_pass (call_up_to_255 call) (all_up_to_255 calls) h in
     left_same calls both.1 (after tray call) ∙ ap (λ (t : List ℕ). one_byte.after_all t calls) (after_same tray call both.0)
 
+empty_answers : (calls : List Call) → all_up_to_255 calls ≡ true → answers_to empty_tray calls ≡ one_byte.answers_to one_byte.empty_tray calls
+empty_answers calls used = answers_same calls used empty_tray ∙ ap (λ (t : List ℕ). one_byte.answers_to t calls) empty_same
+
 pub same_answers : (calls : List Call) (used : all_up_to_255 calls ≡ true) → SameAnswers calls used
 same_answers calls used = record {
-  from_empty = answers_same calls used empty_tray ∙ ap (λ (t : List ℕ). one_byte.answers_to t calls) empty_same;
+  from_empty = empty_answers calls used;
+  since_105 = (no_answer_moved calls).answers ∙ empty_answers calls used;
   from_any = answers_same calls used;
   left = left_same calls used;
 }

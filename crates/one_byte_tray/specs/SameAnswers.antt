@@ -7,6 +7,8 @@ use Rattle.tray_places.specs.Places.{empty_tray}
 use Rattle.tray.specs.declared.refusal.Refusal.TheVariants.{NumberHeld}
 use Rattle.tray.specs.Tray.{as_put}
 use Rattle.tray.specs.Calls.{Call, Put, Take, Ask, ToPut, ToTake, ToAsk, after_all, answers_to}
+use Rattle.summary_tray.specs.SummaryTray as summary_tray
+use Rattle.summary_tray.specs.Calls as since
 use Rattle.one_byte_tray.specs.OneByteTray as one_byte
 
 -- ---- numbers up to 255
@@ -27,7 +29,9 @@ all_up_to_255 (call ∷ calls) = call_up_to_255 call && all_up_to_255 calls
 pub record SameAnswers (calls : List Call) (used : all_up_to_255 calls ≡ true) : Type 0 where
   -- "every list of calls that used numbers up to 255 gets the answers it got": puts, takes and summaries, from the empty tray
   pub from_empty : answers_to empty_tray calls ≡ one_byte.answers_to one_byte.empty_tray calls
-  -- from any memory too, so that a tray that was filled before #104 goes on as it would have; and the memory afterwards is the same
+  -- and so it does of the tray that keeps its summary, since #105
+  pub since_105 : since.answers_to summary_tray.empty_tray calls ≡ one_byte.answers_to one_byte.empty_tray calls
+  -- from any memory too, of the places alone; and the memory afterwards is the same
   pub from_any : (tray : List ℕ) → answers_to tray calls ≡ one_byte.answers_to tray calls
   pub left : (tray : List ℕ) → after_all tray calls ≡ one_byte.after_all tray calls
 
