@@ -1,5 +1,5 @@
 // All pairs and sheets of document 01's 'Pairs and sheets to try', and constants of change request #101 on both sides of each limit and at values worked
-// by hand, and a tray of change requests #102 and #104 from empty to full, through the public operations: each line names an example and what the document
+// by hand, and a tray of change requests #102, #104 and #105 from empty to full, through the public operations: each line names an example and what the document
 // says of it, and ends in "ok" where the operation answers just that, in "WRONG" where it does not.
 #![tactic(auto)]
 

@@ -1,49 +1,58 @@
-// Change requests #102 and #104 from an empty tray on: what fills it, what refuses, what it says of itself, and numbers of 32 bits.
+// Change requests #102, #104 and #105 from an empty tray on: what fills it, what refuses, what it says of itself, numbers of 32 bits, and the summary that it
+// keeps.
 use crate::{by_b, numbered, told};
 use index::{Index, Mark};
 use std::io;
-use tray::TRAY_SIZE;
+use summary_tray::TRAY_SIZE;
 
 // Is a sample of that pair taken out?
 fn taken(tray: &mut [u32; TRAY_SIZE], number: u32, u: u32, y: u32) -> bool {
-    tray::take(tray, number).is_ok_and(|sample| sample.u == u && sample.y == y)
+    summary_tray::take(tray, number).is_ok_and(|sample| sample.u == u && sample.y == y)
 }
 
 // Does the tray hold indices from that to that, of that sum?
 fn holds(tray: &[u32; TRAY_SIZE], lowest: i64, highest: i64, sum: i64) -> bool {
-    matches!(tray::summary(tray), Ok(Some(t)) if t.lowest == lowest && t.highest == highest && t.sum == sum)
+    matches!(summary_tray::summary(tray), Ok(Some(t)) if t.lowest == lowest && t.highest == highest && t.sum == sum)
 }
 
 // Does it count that many by A, by B settled and by B near?
 fn counts(tray: &[u32; TRAY_SIZE], a: u32, settled: u32, near: u32) -> bool {
-    matches!(tray::summary(tray), Ok(Some(t)) if t.a == a && t.settled == settled && t.near == near)
+    matches!(summary_tray::summary(tray), Ok(Some(t)) if t.a == a && t.settled == settled && t.near == near)
 }
 
 // Is oil (1000000000, 2000) taken in under each number from 0 to 63?
 fn filled(tray: &mut [u32; TRAY_SIZE]) -> bool {
-    (0..64).all(|number| tray::put(tray, number, 1_000_000_000, 2_000).is_ok())
+    (0..64).all(|number| summary_tray::put(tray, number, 1_000_000_000, 2_000).is_ok())
 }
 
 fn three_samples(rt: &impl Print, tray: &mut [u32; TRAY_SIZE]) -> io::Result<()> {
     told(
         rt,
         "a tray of zeros: empty",
-        tray::summary(tray) == Ok(None),
+        summary_tray::summary(tray) == Ok(None),
     )?;
     told(
         rt,
         "put 12 (73300, 8860): A 92",
-        tray::put(tray, 12, 73_300, 8_860) == Ok(Index::A(92)),
+        summary_tray::put(tray, 12, 73_300, 8_860) == Ok(Index::A(92)),
     )?;
     told(
         rt,
         "put 7 (22830, 5050): B 156",
-        by_b(tray::put(tray, 7, 22_830, 5_050), 156, Mark::Settled),
+        by_b(
+            summary_tray::put(tray, 7, 22_830, 5_050),
+            156,
+            Mark::Settled,
+        ),
     )?;
     told(
         rt,
         "put 200 (144936, 16776): B 125",
-        by_b(tray::put(tray, 200, 144_936, 16_776), 125, Mark::Near),
+        by_b(
+            summary_tray::put(tray, 200, 144_936, 16_776),
+            125,
+            Mark::Near,
+        ),
     )?;
     told(
         rt,
@@ -58,18 +67,18 @@ fn three_samples(rt: &impl Print, tray: &mut [u32; TRAY_SIZE]) -> io::Result<()>
     told(
         rt,
         "put 12 (53470, 7080): refused 31",
-        numbered(tray::put(tray, 12, 53_470, 7_080)) == Err(31),
+        numbered(summary_tray::put(tray, 12, 53_470, 7_080)) == Err(31),
     )?;
     told(
         rt,
         "put 12 (20000, 1999): refused 1",
-        numbered(tray::put(tray, 12, 20_000, 1_999)) == Err(1),
+        numbered(summary_tray::put(tray, 12, 20_000, 1_999)) == Err(1),
     )?;
     told(rt, "take 7: (22830, 5050)", taken(tray, 7, 22_830, 5_050))?;
     told(
         rt,
         "take 7: refused 33",
-        numbered(tray::take(tray, 7)) == Err(33),
+        numbered(summary_tray::take(tray, 7)) == Err(33),
     )?;
     told(
         rt,
@@ -82,7 +91,11 @@ fn three_samples(rt: &impl Print, tray: &mut [u32; TRAY_SIZE]) -> io::Result<()>
         "take 200: (144936, 16776)",
         taken(tray, 200, 144_936, 16_776),
     )?;
-    told(rt, "the tray: empty", tray::summary(tray) == Ok(None))?;
+    told(
+        rt,
+        "the tray: empty",
+        summary_tray::summary(tray) == Ok(None),
+    )?;
     Ok(())
 }
 
@@ -100,17 +113,17 @@ fn full_tray(rt: &impl Print, tray: &mut [u32; TRAY_SIZE]) -> io::Result<()> {
     told(
         rt,
         "put 64 (73300, 8860): refused 32",
-        numbered(tray::put(tray, 64, 73_300, 8_860)) == Err(32),
+        numbered(summary_tray::put(tray, 64, 73_300, 8_860)) == Err(32),
     )?;
     told(
         rt,
         "put 63 (73300, 8860): refused 31",
-        numbered(tray::put(tray, 63, 73_300, 8_860)) == Err(31),
+        numbered(summary_tray::put(tray, 63, 73_300, 8_860)) == Err(31),
     )?;
     told(
         rt,
         "put 64 (2000, 2000): refused 4",
-        numbered(tray::put(tray, 64, 2_000, 2_000)) == Err(4),
+        numbered(summary_tray::put(tray, 64, 2_000, 2_000)) == Err(4),
     )?;
     told(
         rt,
@@ -120,7 +133,7 @@ fn full_tray(rt: &impl Print, tray: &mut [u32; TRAY_SIZE]) -> io::Result<()> {
     told(
         rt,
         "put 64 (73300, 8860): A 92",
-        tray::put(tray, 64, 73_300, 8_860) == Ok(Index::A(92)),
+        summary_tray::put(tray, 64, 73_300, 8_860) == Ok(Index::A(92)),
     )?;
     told(
         rt,
@@ -135,33 +148,41 @@ fn wide_numbers(rt: &impl Print, tray: &mut [u32; TRAY_SIZE]) -> io::Result<()> 
     told(
         rt,
         "put 1 (73300, 8860): A 92",
-        tray::put(tray, 1, 73_300, 8_860) == Ok(Index::A(92)),
+        summary_tray::put(tray, 1, 73_300, 8_860) == Ok(Index::A(92)),
     )?;
     told(
         rt,
         "put 257 (22830, 5050): B 156",
-        by_b(tray::put(tray, 257, 22_830, 5_050), 156, Mark::Settled),
+        by_b(
+            summary_tray::put(tray, 257, 22_830, 5_050),
+            156,
+            Mark::Settled,
+        ),
     )?;
     told(
         rt,
         "put 65537 (53470, 7080): A 87",
-        tray::put(tray, 65_537, 53_470, 7_080) == Ok(Index::A(87)),
+        summary_tray::put(tray, 65_537, 53_470, 7_080) == Ok(Index::A(87)),
     )?;
     told(
         rt,
         "put 16777217 (28490, 5000): A 100",
-        tray::put(tray, 16_777_217, 28_490, 5_000) == Ok(Index::A(100)),
+        summary_tray::put(tray, 16_777_217, 28_490, 5_000) == Ok(Index::A(100)),
     )?;
     told(
         rt,
         "put 0 (53470, 7800): B 111",
-        by_b(tray::put(tray, 0, 53_470, 7_800), 111, Mark::Settled),
+        by_b(
+            summary_tray::put(tray, 0, 53_470, 7_800),
+            111,
+            Mark::Settled,
+        ),
     )?;
     told(
         rt,
         "put 4294967295 (144936, 16776): B 125",
         by_b(
-            tray::put(tray, 4_294_967_295, 144_936, 16_776),
+            summary_tray::put(tray, 4_294_967_295, 144_936, 16_776),
             125,
             Mark::Near,
         ),
@@ -169,7 +190,7 @@ fn wide_numbers(rt: &impl Print, tray: &mut [u32; TRAY_SIZE]) -> io::Result<()> 
     told(
         rt,
         "put 4294967295 (73300, 8860): refused 31",
-        numbered(tray::put(tray, 4_294_967_295, 73_300, 8_860)) == Err(31),
+        numbered(summary_tray::put(tray, 4_294_967_295, 73_300, 8_860)) == Err(31),
     )?;
     told(
         rt,
@@ -183,7 +204,7 @@ fn wide_numbers_taken(rt: &impl Print, tray: &mut [u32; TRAY_SIZE]) -> io::Resul
     told(
         rt,
         "take 255: refused 33",
-        numbered(tray::take(tray, 255)) == Err(33),
+        numbered(summary_tray::take(tray, 255)) == Err(33),
     )?;
     told(
         rt,
@@ -209,10 +230,152 @@ fn wide_numbers_taken(rt: &impl Print, tray: &mut [u32; TRAY_SIZE]) -> io::Resul
     told(
         rt,
         "take 4294967295: refused 33",
-        numbered(tray::take(tray, 4_294_967_295)) == Err(33),
+        numbered(summary_tray::take(tray, 4_294_967_295)) == Err(33),
     )?;
     told(rt, "take 0: (53470, 7800)", taken(tray, 0, 53_470, 7_800))?;
-    told(rt, "the tray: empty", tray::summary(tray) == Ok(None))?;
+    told(
+        rt,
+        "the tray: empty",
+        summary_tray::summary(tray) == Ok(None),
+    )?;
+    Ok(())
+}
+
+// Change request #105: "also when the lowest leaves while another sample has the same index", and the highest likewise. Oil (73300, 8860) has 92 and oil
+// (22830, 5050) has 156, each under two numbers, and oil (28490, 5000) has 100.
+fn equal_indices(rt: &impl Print, tray: &mut [u32; TRAY_SIZE]) -> io::Result<()> {
+    told(
+        rt,
+        "put 1 (73300, 8860): A 92",
+        summary_tray::put(tray, 1, 73_300, 8_860) == Ok(Index::A(92)),
+    )?;
+    told(
+        rt,
+        "put 2 (73300, 8860): A 92",
+        summary_tray::put(tray, 2, 73_300, 8_860) == Ok(Index::A(92)),
+    )?;
+    told(
+        rt,
+        "put 3 (28490, 5000): A 100",
+        summary_tray::put(tray, 3, 28_490, 5_000) == Ok(Index::A(100)),
+    )?;
+    told(
+        rt,
+        "put 4 (22830, 5050): B 156",
+        by_b(
+            summary_tray::put(tray, 4, 22_830, 5_050),
+            156,
+            Mark::Settled,
+        ),
+    )?;
+    told(
+        rt,
+        "put 5 (22830, 5050): B 156",
+        by_b(
+            summary_tray::put(tray, 5, 22_830, 5_050),
+            156,
+            Mark::Settled,
+        ),
+    )?;
+    told(
+        rt,
+        "the tray: from 92 to 156, sum 596",
+        holds(tray, 92, 156, 596),
+    )?;
+    Ok(())
+}
+
+fn one_of_equals_taken(rt: &impl Print, tray: &mut [u32; TRAY_SIZE]) -> io::Result<()> {
+    told(
+        rt,
+        "take 1, a lowest: (73300, 8860)",
+        taken(tray, 1, 73_300, 8_860),
+    )?;
+    told(
+        rt,
+        "the tray, 92 left: from 92 to 156, sum 504",
+        holds(tray, 92, 156, 504),
+    )?;
+    told(
+        rt,
+        "take 4, a highest: (22830, 5050)",
+        taken(tray, 4, 22_830, 5_050),
+    )?;
+    told(
+        rt,
+        "the tray, 156 left: from 92 to 156, sum 348",
+        holds(tray, 92, 156, 348),
+    )?;
+    told(
+        rt,
+        "put 2 (53470, 7080): refused 31",
+        numbered(summary_tray::put(tray, 2, 53_470, 7_080)) == Err(31),
+    )?;
+    told(
+        rt,
+        "the tray: from 92 to 156, sum 348",
+        holds(tray, 92, 156, 348),
+    )?;
+    told(
+        rt,
+        "the tray: A 2, B settled 1, B near 0",
+        counts(tray, 2, 1, 0),
+    )?;
+    Ok(())
+}
+
+// The lowest leaves with no other, and comes in again; then all leave, one between the lowest and the highest first.
+fn last_lowest_taken(rt: &impl Print, tray: &mut [u32; TRAY_SIZE]) -> io::Result<()> {
+    told(
+        rt,
+        "take 2, the lowest: (73300, 8860)",
+        taken(tray, 2, 73_300, 8_860),
+    )?;
+    told(
+        rt,
+        "the tray: from 100 to 156, sum 256",
+        holds(tray, 100, 156, 256),
+    )?;
+    told(
+        rt,
+        "put 2 (73300, 8860) again: A 92",
+        summary_tray::put(tray, 2, 73_300, 8_860) == Ok(Index::A(92)),
+    )?;
+    told(
+        rt,
+        "the tray: from 92 to 156, sum 348",
+        holds(tray, 92, 156, 348),
+    )?;
+    told(
+        rt,
+        "take 3, between: (28490, 5000)",
+        taken(tray, 3, 28_490, 5_000),
+    )?;
+    told(
+        rt,
+        "the tray: from 92 to 156, sum 248",
+        holds(tray, 92, 156, 248),
+    )?;
+    told(
+        rt,
+        "take 5, the highest: (22830, 5050)",
+        taken(tray, 5, 22_830, 5_050),
+    )?;
+    told(
+        rt,
+        "the tray: from 92 to 92, sum 92",
+        holds(tray, 92, 92, 92),
+    )?;
+    told(
+        rt,
+        "take 2, the last: (73300, 8860)",
+        taken(tray, 2, 73_300, 8_860),
+    )?;
+    told(
+        rt,
+        "the tray: empty",
+        summary_tray::summary(tray) == Ok(None),
+    )?;
     Ok(())
 }
 
@@ -221,5 +384,8 @@ pub fn trays(rt: &impl Print) -> io::Result<()> {
     three_samples(rt, &mut tray)?;
     wide_numbers(rt, &mut tray)?;
     wide_numbers_taken(rt, &mut tray)?;
+    equal_indices(rt, &mut tray)?;
+    one_of_equals_taken(rt, &mut tray)?;
+    last_lowest_taken(rt, &mut tray)?;
     full_tray(rt, &mut tray)
 }
