@@ -168,6 +168,15 @@ static uint32_t wide(uint32_t i)
     return (uint32_t)APART * i;
 }
 
+/* a tray of any numbers; what it keeps is any too, or every other time below 2^32 */
+static void draw_tray(int which)
+{
+    for (uint32_t j = 0; j < VI_TRAY_KEPT; j++)
+        before[j] = j % VI_PLACE_SIZE == VI_PLACE_NUMBER ? wide(drawn(0, 300)) : drawn(0, j % VI_PLACE_SIZE == VI_PLACE_METHOD ? 4 : UINT32_MAX - 1);
+    for (uint32_t j = 0; j < VI_KEPT_SIZE; j++)
+        before[VI_TRAY_KEPT + j] = which % 2 == 0 ? drawn(0, UINT32_MAX - 1) : j < VI_KEPT_A && j % 2 == 1 ? 0 : drawn(0, 64);
+}
+
 /* from the empty tray to the full one, drawn samples that come and go, and trays of any numbers */
 static void trays(void)
 {
@@ -185,8 +194,7 @@ static void trays(void)
         memcpy(before, tray, sizeof before);
     }
     for (int i = 0; i < 20; i++) {
-        for (uint32_t j = 0; j < VI_TRAY_SIZE; j++)
-            before[j] = j % VI_PLACE_SIZE == VI_PLACE_NUMBER ? wide(drawn(0, 300)) : drawn(0, j % VI_PLACE_SIZE == VI_PLACE_METHOD ? 4 : UINT32_MAX - 1);
+        draw_tray(i);
         tray_with_named(wide(drawn(0, 127)), wide(drawn(128, 255)));
     }
 }

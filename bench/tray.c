@@ -4,14 +4,16 @@
    tray list                      the cases, each with the oils it is measured with
    tray run WHAT CASE OIL TIMES   one of them alone, for an instruction count: WHAT is plain, call, pair or bare; OIL is A or B
 
-   plain   C as a firmware author would write it, on the same layout; not verified. The answer that a put stores comes from vi_pair.
+   plain   C as a firmware author would write it, on the same layout; not verified. The answer that a put stores comes from vi_pair. It keeps the summary
+           too: a put adds to it, a take takes off from it and walks over the places only where the lowest or the highest leaves, a refresh copies it.
    call    vi_tray_put, vi_tray_take or vi_tray_summary
    pair    vi_pair alone: what a put costs beyond it is the tray's own share
    bare    the loop with no call in it
 
-   A put and a take change the tray, and the loop changes it back by one store: a place is free where its first number is 0, whatever else it
-   holds. The trays take turns, so that no call reads what was stored just before. What the bare loop costs, store and all, is subtracted from the
-   others. */
+   A put and a take change the tray, and the loop changes it back: by one store the first number of the place, which is free where that is 0, whatever
+   else it holds; and by one copy of 36 bytes what the tray keeps, which is what the library left there when the tray was filled. The loop does both after
+   every call, on both sides and also where nothing has changed. The trays take turns, so that no call reads what was stored just before. What the bare
+   loop costs, store, copy and all, is subtracted from the others. */
 #include <stdint.h>
 #include <stdio.h>
 #include <stdlib.h>
@@ -22,6 +24,7 @@
 
 enum { TRAYS = 4, CALLS = 2000, PASSES = 100, STEPS = 100000 };
 enum { NUMBERS = 256, APART = 16843009 }; /* the numbers of samples, from 0 to 4,294,967,295 */
+enum { DRAWN = 20000, LOWER = 40000 };    /* by A: how much thicker than its oil a drawn sample is at most, and the one with the lowest index */
 enum operation { PUT, TAKE, SUMMARY };
 
 static const struct oil {
@@ -37,17 +40,19 @@ static const struct situation {
     int asked_held; /* whether the number that is asked for is held; then it is in the last place that is not free */
     uint32_t answer;
     int oils;       /* how many of the oils it is measured with */
+    int lowest;     /* whether the last sample has the lowest index, with no other; otherwise it is between, where there are others */
 } situations[] = {
-    {"put-first", "put, none held", PUT, 0, 0, VI_ANSWERED, 2},
-    {"put-last", "put, 63 held", PUT, 63, 0, VI_ANSWERED, 2},
-    {"put-held", "put refused by 31, 64 held", PUT, 64, 1, VI_NUMBER_HELD, 2},
-    {"put-full", "put refused by 32, 64 held", PUT, 64, 0, VI_TRAY_FULL, 2},
-    {"take-only", "take the only one", TAKE, 1, 1, VI_ANSWERED, 2},
-    {"take-last", "take the last of 64", TAKE, 64, 1, VI_ANSWERED, 2},
-    {"take-none", "take refused by 33, 64 held", TAKE, 64, 0, VI_NUMBER_NOT_HELD, 1},
-    {"summary-0", "summary of none", SUMMARY, 0, 0, VI_ANSWERED, 1},
-    {"summary-1", "summary of 1", SUMMARY, 1, 0, VI_ANSWERED, 1},
-    {"summary-64", "summary of 64", SUMMARY, 64, 0, VI_ANSWERED, 1},
+    {"put-first", "put, none held", PUT, 0, 0, VI_ANSWERED, 2, 0},
+    {"put-last", "put, 63 held", PUT, 63, 0, VI_ANSWERED, 2, 0},
+    {"put-held", "put refused by 31, 64 held", PUT, 64, 1, VI_NUMBER_HELD, 2, 0},
+    {"put-full", "put refused by 32, 64 held", PUT, 64, 0, VI_TRAY_FULL, 2, 0},
+    {"take-only", "take the only one", TAKE, 1, 1, VI_ANSWERED, 2, 0},
+    {"take-middle", "take the last of 64, between", TAKE, 64, 1, VI_ANSWERED, 2, 0},
+    {"take-lowest", "take the last of 64, the lowest", TAKE, 64, 1, VI_ANSWERED, 1, 1},
+    {"take-none", "take refused by 33, 64 held", TAKE, 64, 0, VI_NUMBER_NOT_HELD, 1, 0},
+    {"summary-0", "summary of none", SUMMARY, 0, 0, VI_ANSWERED, 1, 0},
+    {"summary-1", "summary of 1", SUMMARY, 1, 0, VI_ANSWERED, 1, 0},
+    {"summary-64", "summary of 64", SUMMARY, 64, 0, VI_ANSWERED, 1, 0},
 };
 enum { SITUATIONS = sizeof situations / sizeof *situations };
 
@@ -56,11 +61,54 @@ static uint8_t record[VI_RECORD_SIZE];
 static int64_t row[VI_SUMMARY_SIZE];
 static uint32_t asked[TRAYS];   /* the number that is asked for */
 static uint32_t at, was[TRAYS]; /* where the first number of the place stands that a call changes, and what it is before */
+static uint32_t kept[TRAYS][VI_KEPT_SIZE]; /* what the tray keeps before a call */
 static volatile int64_t sink;
 
 /* ---- plain C. It stays a call, as the library's functions are: no inlining, and nothing that the compiler learns about the caller */
 
 #define CALLED __attribute__((noipa))
+
+/* what a tray keeps, read and written where it stands: nine numbers, the first six of them in pairs of 64 bits */
+struct __attribute__((packed, may_alias)) summary {
+    int64_t lowest, highest, sum;
+    uint32_t counts[3]; /* by A, by B settled, by B near */
+};
+_Static_assert(sizeof(struct summary) == VI_KEPT_SIZE * sizeof(uint32_t), "the nine numbers");
+
+static inline uint32_t count_of(uint32_t method)
+{
+    return method == VI_METHOD_A ? 0 : method == VI_METHOD_B_SETTLED ? 1 : 2;
+}
+
+static inline void add(struct summary *s, uint32_t method, int32_t index)
+{
+    int none = (s->counts[0] | s->counts[1] | s->counts[2]) == 0;
+    if (none || index < s->lowest)
+        s->lowest = index;
+    if (none || index > s->highest)
+        s->highest = index;
+    s->sum += index;
+    s->counts[count_of(method)]++;
+}
+
+static inline struct summary walk(const uint32_t *tray)
+{
+    int64_t lowest = 0, highest = 0, sum = 0;
+    uint32_t held = 0, by_a = 0, settled = 0;
+    for (const uint32_t *place = tray; place < tray + VI_TRAY_KEPT; place += VI_PLACE_SIZE) {
+        uint32_t method = place[VI_PLACE_METHOD];
+        int32_t index = (int32_t)place[VI_PLACE_INDEX];
+        if (method == 0)
+            continue;
+        lowest = held == 0 || index < lowest ? index : lowest;
+        highest = held == 0 || index > highest ? index : highest;
+        sum += index;
+        by_a += method == VI_METHOD_A;
+        settled += method == VI_METHOD_B_SETTLED;
+        held++;
+    }
+    return (struct summary){lowest, highest, sum, {by_a, settled, held - by_a - settled}};
+}
 
 static CALLED uint32_t plain_put(uint32_t *tray, size_t tray_count, uint32_t number, uint32_t u, uint32_t y, uint8_t *to, size_t length)
 {
@@ -75,7 +123,7 @@ static CALLED uint32_t plain_put(uint32_t *tray, size_t tray_count, uint32_t num
         return VI_U_ABOVE_MOST;
     if (u <= y)
         return VI_U_NOT_ABOVE_Y;
-    for (uint32_t *place = tray; place < tray + VI_TRAY_SIZE; place += VI_PLACE_SIZE) {
+    for (uint32_t *place = tray; place < tray + VI_TRAY_KEPT; place += VI_PLACE_SIZE) {
         if (place[VI_PLACE_NUMBER] == number && place[VI_PLACE_METHOD] != 0)
             return VI_NUMBER_HELD;
         if (!vacant && place[VI_PLACE_METHOD] == 0)
@@ -90,22 +138,31 @@ static CALLED uint32_t plain_put(uint32_t *tray, size_t tray_count, uint32_t num
     vacant[VI_PLACE_Y] = y;
     memcpy(vacant + VI_PLACE_INDEX, to + VI_RECORD_INDEX, 12); /* index, p and P */
     vacant[7] = 0;
+    add((struct summary *)(tray + VI_TRAY_KEPT), vacant[VI_PLACE_METHOD], (int32_t)vacant[VI_PLACE_INDEX]);
     return VI_ANSWERED;
 }
 
 static CALLED uint32_t plain_take(uint32_t *tray, size_t tray_count, uint32_t number, uint32_t *u_and_y, size_t pair_count, uint8_t *to, size_t length)
 {
+    struct summary *s = (struct summary *)(tray + VI_TRAY_KEPT);
     if (tray_count != VI_TRAY_SIZE || pair_count != VI_SAMPLE_PAIR_SIZE || length != VI_RECORD_SIZE)
         return VI_TRAY_NOT_LENT;
-    for (uint32_t *place = tray; place < tray + VI_TRAY_SIZE; place += VI_PLACE_SIZE) {
+    for (uint32_t *place = tray; place < tray + VI_TRAY_KEPT; place += VI_PLACE_SIZE) {
         uint32_t method = place[VI_PLACE_METHOD];
         if (method == 0 || place[VI_PLACE_NUMBER] != number)
             continue;
+        int32_t index = (int32_t)place[VI_PLACE_INDEX];
         memcpy(u_and_y, place + VI_PLACE_U, 8);
         memset(to, 0, 4);
         to[VI_RECORD_METHOD] = (uint8_t)(method < VI_METHOD_B_NEAR ? method : VI_METHOD_B_NEAR);
         memcpy(to + VI_RECORD_INDEX, place + VI_PLACE_INDEX, 12);
         place[VI_PLACE_METHOD] = 0;
+        if (index == s->lowest || index == s->highest) {
+            *s = walk(tray);
+        } else {
+            s->sum -= index;
+            s->counts[count_of(method)]--;
+        }
         return VI_ANSWERED;
     }
     return VI_NUMBER_NOT_HELD;
@@ -113,28 +170,16 @@ static CALLED uint32_t plain_take(uint32_t *tray, size_t tray_count, uint32_t nu
 
 static CALLED uint32_t plain_summary(const uint32_t *tray, size_t tray_count, int64_t *to, size_t row_count)
 {
-    int64_t held = 0, lowest = 0, highest = 0, sum = 0, by_a = 0, settled = 0;
+    const struct summary *s = (const struct summary *)(tray + VI_TRAY_KEPT);
     if (tray_count != VI_TRAY_SIZE || row_count != VI_SUMMARY_SIZE)
         return VI_TRAY_NOT_LENT;
-    for (const uint32_t *place = tray; place < tray + VI_TRAY_SIZE; place += VI_PLACE_SIZE) {
-        uint32_t method = place[VI_PLACE_METHOD];
-        int32_t index = (int32_t)place[VI_PLACE_INDEX];
-        if (method == 0)
-            continue;
-        lowest = held == 0 || index < lowest ? index : lowest;
-        highest = held == 0 || index > highest ? index : highest;
-        sum += index;
-        by_a += method == VI_METHOD_A;
-        settled += method == VI_METHOD_B_SETTLED;
-        held++;
-    }
-    to[VI_SUMMARY_HELD] = held;
-    to[VI_SUMMARY_LOWEST] = lowest;
-    to[VI_SUMMARY_HIGHEST] = highest;
-    to[VI_SUMMARY_SUM] = sum;
-    to[VI_SUMMARY_A] = by_a;
-    to[VI_SUMMARY_SETTLED] = settled;
-    to[VI_SUMMARY_NEAR] = held - by_a - settled;
+    to[VI_SUMMARY_HELD] = (int64_t)s->counts[0] + s->counts[1] + s->counts[2];
+    to[VI_SUMMARY_LOWEST] = s->lowest;
+    to[VI_SUMMARY_HIGHEST] = s->highest;
+    to[VI_SUMMARY_SUM] = s->sum;
+    to[VI_SUMMARY_A] = s->counts[0];
+    to[VI_SUMMARY_SETTLED] = s->counts[1];
+    to[VI_SUMMARY_NEAR] = s->counts[2];
     return VI_ANSWERED;
 }
 
@@ -152,17 +197,32 @@ static void fail(const char *what, const char *where, long long found)
     exit(1);
 }
 
-/* by A or by B, as often; other indices than those of the two oils */
+/* by A or by B, as often; the index of each is beyond that of the oil it is drawn from, or at it: at most 92 by A, at least 156 by B */
 static struct oil draw(void)
 {
     struct oil oil = oils[random_unit() < 0.5];
-    oil.u = oil.method == VI_METHOD_A ? oil.u + (uint32_t)(20000 * random_unit()) : oil.u - (uint32_t)(2000 * random_unit());
+    oil.u = oil.method == VI_METHOD_A ? oil.u + (uint32_t)(DRAWN * random_unit()) : oil.u - (uint32_t)(2000 * random_unit());
     return oil;
 }
 
-/* Each tray holds what `s` says, put in from the empty tray on, under numbers in random order; the last sample is `oil`. */
+/* Whether the last sample of a tray of several leaves the lowest and the highest as they are, or is the lowest: as `s` says. */
+static void check_last(const struct situation *s, const uint32_t *tray)
+{
+    int64_t index = (int32_t)tray[VI_PLACE_SIZE * (s->held - 1) + VI_PLACE_INDEX], next = INT64_MAX;
+    for (uint32_t i = 0; i + 1 < s->held; i++) {
+        int64_t other = (int32_t)tray[VI_PLACE_SIZE * i + VI_PLACE_INDEX];
+        next = other < next ? other : next;
+    }
+    vi_tray_summary(tray, VI_TRAY_SIZE, row, VI_SUMMARY_SIZE);
+    if (s->lowest ? index >= next : index <= row[VI_SUMMARY_LOWEST] || index >= row[VI_SUMMARY_HIGHEST])
+        fail("the last sample has not the index it should", s->name, index);
+}
+
+/* Each tray holds what `s` says, put in from the empty tray on, under numbers in random order; the last sample is `oil`, or thicker where it is to have
+   the lowest index. */
 static void fill(const struct situation *s, struct oil oil)
 {
+    oil.u += s->lowest ? LOWER : 0;
     vi_pair(oil.u, oil.y, record, sizeof record);
     if (record[VI_RECORD_METHOD] != oil.method)
         fail("the oil has another method", oil.name, record[VI_RECORD_METHOD]);
@@ -181,6 +241,9 @@ static void fill(const struct situation *s, struct oil oil)
                 fail("a sample is not put in", s->name, answer);
         }
         asked[t] = numbers[s->asked_held ? s->held - 1 : s->held];
+        if (s->held > 1 && s->operation == TAKE)
+            check_last(s, trays[t]);
+        memcpy(kept[t], trays[t] + VI_TRAY_KEPT, sizeof kept[t]);
     }
     at = 0;
     if (s->answer == VI_ANSWERED && s->operation != SUMMARY)
@@ -225,10 +288,11 @@ static void compare(void)
 
 /* ---- one pass of many calls */
 
-#define FOR_ALL(CALL)                                       \
-    for (int i = 0, t = 0; i < CALLS; i++, t = i % TRAYS) { \
-        sum += CALL;                                        \
-        trays[t][at] = was[t];                              \
+#define FOR_ALL(CALL)                                           \
+    for (int i = 0, t = 0; i < CALLS; i++, t = i % TRAYS) {     \
+        sum += CALL;                                            \
+        trays[t][at] = was[t];                                  \
+        memcpy(trays[t] + VI_TRAY_KEPT, kept[t], sizeof *kept); \
     }
 
 static void pass(const char *what, const struct situation *s, const struct oil *oil)

@@ -1,14 +1,15 @@
 #!/usr/bin/env bash
-# The cost of a put, a take and a summary beside plain C with the same tray.
+# The cost of a put, a take and a summary beside plain C with the same tray, which keeps its summary too.
 #
-#   bench/tray.sh         ns a call and ratios, several repetitions, with none, 1, 63 or 64 samples held, puts and takes for an oil by A and one by B
+#   bench/tray.sh         ns a call and ratios, several repetitions, with none, 1, 63 or 64 samples held, puts and takes for an oil by A and one by B;
+#                         the sample that is taken is the only one, or has an index between the lowest and the highest, or the lowest
 #   bench/tray.sh count   instructions a call by valgrind's callgrind, which a noisy machine does not change
 set -eu
 root=$(cd "$(dirname "$0")/.." && pwd)
 case ${1:-time} in
 time) ;;
 count) dpkg -s valgrind >/dev/null 2>&1 || { apt-get update -qq && apt-get install -y -qq valgrind >/dev/null; } ;;
-*) sed -n '2,5p' "$0" >&2; exit 2 ;;
+*) sed -n '2,6p' "$0" >&2; exit 2 ;;
 esac
 work=$(mktemp -d)
 trap 'rm -rf "$work"' EXIT

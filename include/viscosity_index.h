@@ -7,7 +7,7 @@
  * - Every function returns, and answers one of the numbers below. There is nothing to test beforehand or to free, and nothing to initialise but a
  *   new tray, to zeros.
  * - They read and write only the memory lent to them, remember nothing between calls, and may run at the same time on different memory. What a
- *   tray holds stands in the memory lent for it and nowhere else.
+ *   tray holds, and the summary that it keeps, stand in the memory lent for it and nowhere else.
  * - A buffer of bytes may have any alignment; a row of a constant is aligned as any array of int32_t, a tray and the pair of a sample as any array
  *   of uint32_t, a summary as any array of int64_t. The memories lent to one call must not overlap. Where a length or count is 0, nothing is read
  *   through the pointer.
@@ -105,10 +105,14 @@
 #define VI_Q 16777216u
 #define VI_INDEX_B_GREATEST 10000
 
-/* A tray: 64 places of 8 numbers each, one behind the other. Place i begins at number VI_PLACE_SIZE * i. All zeros is the empty tray. Any numbers are
-   some tray. A tray may be stored and loaded again, or lent from other memory at each call. */
-#define VI_TRAY_SIZE 512u  /* numbers of 32 bits, not bytes: 2,048 bytes */
+/* A tray: 64 places of 8 numbers each, one behind the other, and behind them the summary that it keeps of its samples. Place i begins at number
+   VI_PLACE_SIZE * i. All zeros is the empty tray. Any numbers are some tray. A tray may be stored and loaded again, or lent from other memory at each
+   call.
+   Before change request #105 a tray had 512 numbers, the places alone: compile what calls with a tray again. A tray of that size gets VI_TRAY_NOT_LENT. Do
+   not lengthen a stored one with zeros: it would say that no sample is held. Put its samples into a new tray. */
+#define VI_TRAY_SIZE 521u  /* numbers of 32 bits, not bytes: 2,084 bytes */
 #define VI_TRAY_PLACES 64u /* a sample each */
+#define VI_TRAY_KEPT 512u  /* where the kept summary begins */
 
 /* A place, by its numbers. It is free where its method is 0, whatever else stands in it. */
 #define VI_PLACE_SIZE 8u   /* numbers, not bytes; the last is 0 in a sample that was put in */
@@ -119,6 +123,17 @@
 #define VI_PLACE_INDEX 4u  /* the index: by A two's complement, by B without sign, and at most VI_INDEX_B_GREATEST where it was put in */
 #define VI_PLACE_LOWER 5u  /* p, by procedure B; 0 in a sample by A that was put in */
 #define VI_PLACE_UPPER 6u  /* P, likewise */
+
+/* The kept summary, by its numbers. Each put and each take that is answered brings it up to date. An index and the sum are 64 bits in two's complement
+   and take two numbers, the lower 32 bits first. Where the three counts are 0, it is the summary of no sample, whatever the other six are; these calls
+   leave nine zeros then. */
+#define VI_KEPT_SIZE 9u    /* numbers, not bytes */
+#define VI_KEPT_LOWEST 0u  /* and 1: the lowest index */
+#define VI_KEPT_HIGHEST 2u /* and 3: the highest index */
+#define VI_KEPT_SUM 4u     /* and 5: the sum of indices */
+#define VI_KEPT_A 6u       /* how many are by A */
+#define VI_KEPT_SETTLED 7u /* by B, settled */
+#define VI_KEPT_NEAR 8u    /* by B, near */
 
 /* The pair of a sample that is taken out: two numbers, at these places. */
 #define VI_SAMPLE_PAIR_SIZE 2u /* numbers, not bytes */
@@ -166,25 +181,35 @@ uint32_t vi_constant_100(uint32_t viscosity, uint32_t density, int32_t *row, siz
 /*
  * Puts a sample into a tray. `tray` points to `tray_count` numbers, `record` to `length` bytes. Unless these are VI_TRAY_SIZE and VI_RECORD_SIZE,
  * answers VI_TRAY_NOT_LENT. Then the pair's questions are asked, 1 to 4, then 31 and 32. A refused call changes nothing, in the tray or in the
- * record. Otherwise the first free place of the tray holds the sample, the record is the pair's answer, as vi_pair fills it, and VI_ANSWERED is
- * answered.
- * `number` is any number of 32 bits. It was a uint8_t before change request #104, here and in vi_tray_take: compile what calls them again. The layout
- * and the size of a tray are as before, and calls with numbers up to 255 get the answers they got, also with a tray that was filled before. Hand
- * over a type without sign: a char that is below zero, which became a number up to 255, now becomes one above 4,294,967,000.
+ * record. Otherwise the first free place of the tray holds the sample, the kept summary has it too, the record is the pair's answer, as vi_pair fills
+ * it, and VI_ANSWERED is answered.
+ * `number` is any number of 32 bits. It was a uint8_t before change request #104, here and in vi_tray_take: compile what calls them again. From an
+ * empty tray on, calls with numbers up to 255 get the answers they got. Hand over a type without sign: a char that is below zero, which became a number
+ * up to 255, now becomes one above 4,294,967,000.
  */
 uint32_t vi_tray_put(uint32_t *tray, size_t tray_count, uint32_t number, uint32_t u, uint32_t y, uint8_t *record, size_t length);
 
 /*
  * Takes a sample out of a tray. `pair` points to `pair_count` numbers (not bytes). Unless the sizes are VI_TRAY_SIZE, VI_SAMPLE_PAIR_SIZE and
  * VI_RECORD_SIZE, answers VI_TRAY_NOT_LENT; where the number is not held, 33. A refused call changes nothing. Otherwise the pair is u and y, the
- * record is the answer held with them, the place is free (its first number is 0, its other numbers are as they were), and VI_ANSWERED is
- * answered. Where several places hold one number, which no list of calls from an empty tray leads to, it is the first of them.
+ * record is the answer held with them, the place is free (its first number is 0, its other numbers are as they were), the kept summary is without the
+ * sample, and VI_ANSWERED is answered. Where several places hold one number, which no list of calls from an empty tray leads to, it is the first of
+ * them.
+ * Where the lowest or the highest index leaves, the call goes over all places once more to find the summary of those that stay: another sample may
+ * have the same index.
  */
 uint32_t vi_tray_take(uint32_t *tray, size_t tray_count, uint32_t number, uint32_t *pair, size_t pair_count, uint8_t *record, size_t length);
 
 /*
  * The summary of a tray, which is only read. `row` points to `row_count` numbers (not bytes). Unless the sizes are VI_TRAY_SIZE and
  * VI_SUMMARY_SIZE, answers VI_TRAY_NOT_LENT and leaves the row as it is. Otherwise fills the row and answers VI_ANSWERED.
+ * The row is what the tray keeps: the call reads the last nine numbers and no place, and costs the same with 1 sample held as with 64. If these calls
+ * alone wrote the tray, from zeros on, that is the summary of the samples held, after each put and take.
+ * If somebody else wrote any of its numbers, puts and takes still go by the places alone and answer as always, and a summary still answers what is
+ * kept, which may be another than that of the samples. A put adds its sample to what is kept, and a take takes its own off, where a count that is 0
+ * stays 0. But a take of a sample at or beyond the lowest or the highest index kept finds the summary anew from the places, and so does any put or take
+ * where what is kept has an index below -4,294,967,297 or above 4,294,967,296, a sum below -281,474,976,710,657 or above 281,474,976,710,656, or a count
+ * above 65,536. Where what is kept is the summary of the samples, it stays so.
  */
 uint32_t vi_tray_summary(const uint32_t *tray, size_t tray_count, int64_t *row, size_t row_count);
 

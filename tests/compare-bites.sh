@@ -1,16 +1,16 @@
 #!/usr/bin/env bash
 # Shows that the comparison can fail: each of these wrong libraries, made from
-# the real one by tests/compare/wrong.c, wrong_constants.c, wrong_trays.c and
-# wrong_numbers.c, must be noticed. The real one must pass the same short run, and so
-# must four that choose otherwise where document 01 or the constant's request leaves
-# the choice free. Then every last digit of the table and of the two formulas, one
+# the real one by tests/compare/wrong.c, wrong_constants.c, wrong_trays.c,
+# wrong_numbers.c and wrong_kept.c, must be noticed. The real one must pass the
+# same short run, and so must four that choose otherwise where document 01 or
+# the constant's request leaves the choice free. Then every last digit of the table and of the two formulas, one
 # more and one less.
 set -euo pipefail
 . "$(dirname "$0")/compare/common.sh"
 have_headers
 find_archive
-short=(--pairs 200000 --sheets 4000 --constants 400000 --powers 0 --trays 40000)
-short_trays=(--pairs 0 --sheets 0 --constants 0 --powers 0 --trays 40000)
+short=(--pairs 200000 --sheets 4000 --constants 400000 --powers 0 --trays 60000)
+short_trays=(--pairs 0 --sheets 0 --constants 0 --powers 0 --trays 60000)
 
 # In the order of the numbers that wrong.c gives them.
 wrong=(
@@ -187,6 +187,27 @@ wrong_numbers=(
     "4,294,967,295 refused"
 )
 
+# Likewise, wrong_kept.c.
+wrong_kept=(
+    "the lowest kept when it leaves"
+    "the highest kept when it leaves"
+    "the lowest found among other indices than the one that left"
+    "the highest found among other indices than the one that left"
+    "the count of A not taken down"
+    "the count of B settled not taken down"
+    "the count of B near not taken down"
+    "the sum taken down by another sample's index"
+    "the sum not taken down"
+    "the empty tray answers its last summary"
+    "a put not kept"
+    "a put refused by 31 or 32 kept"
+    "a take refused by 33 kept"
+    "the kept sum cut to 32 bits"
+    "a refresh that walks over the places"
+    "the lowest and the highest kept in each other's place"
+    "the higher 32 bits kept first"
+)
+
 build_compare sound
 "$work/sound" "${short[@]}" >"$work/out" 2>&1 || { cat "$work/out"; die "the real library fails the short run"; }
 
@@ -223,14 +244,17 @@ for i in "${!right_trays[@]}"; do
     "$work/right" "${short_trays[@]}" >"$work/out" 2>&1 || { cat "$work/out"; die "not let pass: ${right_trays[$i]}"; }
     echo "passes: ${right_trays[$i]}: $(sed -n 's/^index from .*; widest/widest/p' "$work/out")"
 done
-numbers=--wrap=vi_tray_put,--wrap=vi_tray_take,--wrap=vi_tray_summary
+calls=--wrap=vi_tray_put,--wrap=vi_tray_take,--wrap=vi_tray_summary
 for i in "${!wrong_numbers[@]}"; do
-    must_notice wrong_numbers.c $((i + 1)) "${wrong_numbers[$i]}" "$numbers" "${short_trays[@]}"
+    must_notice wrong_numbers.c $((i + 1)) "${wrong_numbers[$i]}" "$calls" "${short_trays[@]}"
+done
+for i in "${!wrong_kept[@]}"; do
+    must_notice wrong_kept.c $((i + 1)) "${wrong_kept[$i]}" "$calls" "${short_trays[@]}"
 done
 # Needs no library: the wrong ones are our own with another table.
 from=$root/tests/compare
 build digits "$from"/{digits,harness,pairs,constants,oil,constant}.c
 "$work/digits" || die "a changed digit is not noticed"
 
-noticed=$((${#wrong[@]} + ${#wrong_constants[@]} + ${#wrong_trays[@]} + ${#wrong_numbers[@]}))
+noticed=$((${#wrong[@]} + ${#wrong_constants[@]} + ${#wrong_trays[@]} + ${#wrong_numbers[@]} + ${#wrong_kept[@]}))
 echo "compare-bites: passed: $noticed wrong libraries noticed, the real one passes"

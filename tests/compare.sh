@@ -9,4 +9,4 @@ set -euo pipefail
 have_headers
 find_archive
 build_compare compare
-"$work/compare" "$@" || die "the library differs from document 01 or from change request #101, #102 or #104"
+"$work/compare" "$@" || die "the library differs from document 01 or from change request #101, #102, #104 or #105"

@@ -1,7 +1,7 @@
 #!/usr/bin/env bash
-# A list of calls with numbers up to 255 gets the answers that the tray of change request #102 gave before #104 widened the numbers: the calls of
-# tests/recorded/tray-of-102.txt, made again by tests/c/replay.c, print the same file, byte for byte. Then shows that the test can fail: a changed, cut or
-# empty record and wrong trays are told.
+# A list of calls with numbers up to 255 gets the answers that the tray of change request #102 gave before #104 widened the numbers and #105 let the tray keep
+# its summary: the calls of tests/recorded/tray-of-102.txt, made again by tests/c/replay.c, print the same file, byte for byte. Then shows that the test can
+# fail: a changed, cut or empty record and wrong trays are told.
 set -eu
 cd "$(dirname "$0")/.."
 work=$(mktemp -d)

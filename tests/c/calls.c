@@ -1,8 +1,9 @@
 /*
  * Calls the library as firmware does: every question's number at its edge, buffers of no length, both orders of the blocks, gaps, 2,000
  * pairs, result blocks full of garbage, unaligned buffers, rows of every count that end where the memory ends, trays from empty to full and back,
- * with sample numbers over all 32 bits, stored, read-only and damaged. What a sheet or a tray should hold after a call is put together here from
- * what it held before and from vi_pair's records, and all of it is compared, with the bytes on either side of the buffer.
+ * with sample numbers over all 32 bits, stored, read-only and damaged, and a refresh where the places cannot be read. What a sheet or a tray should hold
+ * after a call is put together here from what it held before and from vi_pair's records, the kept summary by a walk over the places, and all of it is
+ * compared, with the bytes on either side of the buffer.
  */
 #define _DEFAULT_SOURCE
 #include "viscosity_index.h"
@@ -375,8 +376,15 @@ static void pages_are_right(uint32_t number)
         check(memcmp(pages[i], wanted_pages[i], PAGE) == 0, what, i, number);
 }
 
-/* the tray between two calls; each call is lent a copy */
+/* the tray between two calls; each call is lent a copy. Where it is foreign, somebody else wrote it, and what an answered call keeps is not asked. */
 static uint32_t held[VI_TRAY_SIZE];
+static int foreign;
+
+static void begin_empty(void)
+{
+    memset(held, 0, sizeof held);
+    foreign = 0;
+}
 
 static uint32_t *lend_tray(size_t after)
 {
@@ -397,6 +405,42 @@ static size_t place_of(int is_free, uint32_t number)
             break;
     }
     return i;
+}
+
+static void keep_64(uint32_t *at, int64_t x)
+{
+    at[0] = (uint32_t)(uint64_t)x;
+    at[1] = (uint32_t)((uint64_t)x >> 32);
+}
+
+static int64_t kept_64(const uint32_t *at)
+{
+    return (int64_t)((uint64_t)at[0] | (uint64_t)at[1] << 32);
+}
+
+/* the nine numbers that a tray with these places keeps; those of a foreign tray as the call left them */
+static void keep(const uint32_t *left)
+{
+    uint32_t *kept = held + VI_TRAY_KEPT;
+    int64_t lowest = INT64_MAX, highest = INT64_MIN, sum = 0;
+    if (foreign) {
+        memcpy(kept, left + VI_TRAY_KEPT, VI_KEPT_SIZE * sizeof *kept);
+        return;
+    }
+    memset(kept, 0, VI_KEPT_SIZE * sizeof *kept);
+    for (size_t i = 0; i < VI_TRAY_PLACES; i++) {
+        const uint32_t *place = held + VI_PLACE_SIZE * i, method = place[VI_PLACE_METHOD];
+        const int64_t index = (int32_t)place[VI_PLACE_INDEX];
+        if (method == VI_METHOD_REFUSED)
+            continue;
+        lowest = index < lowest ? index : lowest;
+        highest = index > highest ? index : highest;
+        sum += index;
+        kept[method == VI_METHOD_A ? VI_KEPT_A : method == VI_METHOD_B_SETTLED ? VI_KEPT_SETTLED : VI_KEPT_NEAR]++;
+        keep_64(kept + VI_KEPT_LOWEST, lowest);
+        keep_64(kept + VI_KEPT_HIGHEST, highest);
+        keep_64(kept + VI_KEPT_SUM, sum);
+    }
 }
 
 static void put_is(uint32_t number, uint32_t u, uint32_t y, uint32_t wanted)
@@ -420,6 +464,7 @@ static void put_is(uint32_t number, uint32_t u, uint32_t y, uint32_t wanted)
             place[VI_PLACE_INDEX] = get32(answer + VI_RECORD_INDEX);
             place[VI_PLACE_LOWER] = get32(answer + VI_RECORD_LOWER);
             place[VI_PLACE_UPPER] = get32(answer + VI_RECORD_UPPER);
+            keep(tray);
             will_hold(TRAY_LENT, tray, held, sizeof held);
             will_hold(RECORD_LENT, record, answer, sizeof answer);
         }
@@ -444,6 +489,7 @@ static void take_is(uint32_t number, uint32_t wanted)
             out[VI_SAMPLE_PAIR_Y] = place[VI_PLACE_Y];
             vi_pair(place[VI_PLACE_U], place[VI_PLACE_Y], answer, sizeof answer);
             place[VI_PLACE_METHOD] = VI_METHOD_REFUSED;
+            keep(tray);
             will_hold(TRAY_LENT, tray, held, sizeof held);
             will_hold(PAIR_LENT, pair, out, sizeof out);
             will_hold(RECORD_LENT, record, answer, sizeof answer);
@@ -475,7 +521,7 @@ static void summary_is(int64_t count, int64_t lowest, int64_t highest, int64_t s
 /* from empty to full and back, every question on the way; of several that fail the first gives its number */
 static void tray_from_empty_to_full(void)
 {
-    memset(held, 0, sizeof held);
+    begin_empty();
     summary_is(0, 0, 0, 0, 0, 0, 0);
     take_is(0, VI_NUMBER_NOT_HELD);
     take_is(255, VI_NUMBER_NOT_HELD);
@@ -519,7 +565,7 @@ static void tray_numbers(void)
     static const uint32_t numbers[] = {0, 1, 257, 65537, 16777217, UINT32_MAX};
     static const uint32_t steps[][2] = {{1, 256}, {1, 65536}, {1, 16777216}, {104000200, 13000007}, {0, UINT32_MAX / 63}};
     const unsigned count = sizeof numbers / sizeof *numbers;
-    memset(held, 0, sizeof held);
+    begin_empty();
     for (unsigned i = 0; i < count; i++) {
         put_is(numbers[i], 73300, 8860, VI_ANSWERED);
         for (unsigned j = 0; j < count; j++)
@@ -549,7 +595,7 @@ static void tray_numbers(void)
 static void tray_stored(void)
 {
     int64_t row[VI_SUMMARY_SIZE];
-    memset(held, 0, sizeof held);
+    begin_empty();
     put_is(3, 73300, 8860, VI_ANSWERED);
     FILE *file = tmpfile();
     check(file != NULL && fwrite(held, sizeof held, 1, file) == 1, "a stored tray", 0, 1);
@@ -571,6 +617,59 @@ static void tray_stored(void)
     const uint32_t got = vi_tray_summary((const uint32_t *)(const void *)memory, VI_TRAY_SIZE, row, VI_SUMMARY_SIZE);
     check(got == VI_ANSWERED && row[VI_SUMMARY_HELD] == 2 && row[VI_SUMMARY_SUM] == 217, "the summary of a tray that cannot be written", got, 0);
     take_is(3, VI_ANSWERED);
+}
+
+/* the lowest and the highest leave while another sample has the same index, by the same method or by another, and where none has; one between them
+   leaves; the last leaves; the same sample comes again */
+static void tray_keeps(void)
+{
+    begin_empty();
+    put_is(1, 73300, 8860, VI_ANSWERED);   /* 92 by A */
+    put_is(2, 28490, 5000, VI_ANSWERED);   /* 100 by A */
+    put_is(3, 28489, 5000, VI_ANSWERED);   /* 100 by B */
+    put_is(4, 73300, 8860, VI_ANSWERED);   /* 92 by A */
+    put_is(5, 144936, 16776, VI_ANSWERED); /* 125 by B, near */
+    put_is(6, 144935, 16776, VI_ANSWERED); /* 125 by B */
+    summary_is(6, 92, 125, 634, 3, 2, 1);
+    put_is(6, 8018, 2000, VI_NUMBER_HELD);
+    take_is(7, VI_NUMBER_NOT_HELD);
+    summary_is(6, 92, 125, 634, 3, 2, 1);
+    take_is(1, VI_ANSWERED);
+    summary_is(5, 92, 125, 542, 2, 2, 1);
+    take_is(6, VI_ANSWERED);
+    summary_is(4, 92, 125, 417, 2, 1, 1);
+    take_is(2, VI_ANSWERED);
+    summary_is(3, 92, 125, 317, 1, 1, 1);
+    take_is(5, VI_ANSWERED);
+    summary_is(2, 92, 100, 192, 1, 1, 0);
+    take_is(4, VI_ANSWERED);
+    summary_is(1, 100, 100, 100, 0, 1, 0);
+    for (unsigned i = 0; i < 2; i++) {
+        take_is(3, VI_ANSWERED);
+        summary_is(0, 0, 0, 0, 0, 0, 0);
+        put_is(3, 28489, 5000, VI_ANSWERED);
+        summary_is(1, 100, 100, 100, 0, 1, 0);
+    }
+}
+
+/* a refresh reads what is kept and no place: the places end where memory begins that can be read */
+static void tray_places_not_read(void)
+{
+    const size_t page = (size_t)sysconf(_SC_PAGESIZE);
+    uint8_t *memory = (uint8_t *)mmap(NULL, 2 * page, PROT_READ | PROT_WRITE, MAP_PRIVATE | MAP_ANONYMOUS, -1, 0);
+    if (memory == MAP_FAILED)
+        exit(2);
+    uint32_t *tray = (uint32_t *)(void *)(memory + page) - VI_TRAY_KEPT;
+    int64_t row[VI_SUMMARY_SIZE];
+    for (unsigned i = 0; i <= VI_TRAY_PLACES; i++) {
+        uint8_t record[VI_RECORD_SIZE];
+        check(mprotect(memory, page, PROT_NONE) == 0, "places that cannot be read", 1, 0);
+        const uint32_t got = vi_tray_summary(tray, VI_TRAY_SIZE, row, VI_SUMMARY_SIZE);
+        check(got == VI_ANSWERED && row[VI_SUMMARY_HELD] == i && row[VI_SUMMARY_SUM] == (int64_t)i * 92, "a refresh that reads no place", got, 0);
+        check(mprotect(memory, page, PROT_READ | PROT_WRITE) == 0, "places that can be read", 1, 0);
+        vi_tray_put(tray, VI_TRAY_SIZE, i, 73300, 8860, record, sizeof record);
+    }
+    munmap(memory, 2 * page);
 }
 
 /* all three calls with memories of these sizes: 5 where one of its own is not the right one, and nothing changes; of no size there may be no place */
@@ -601,6 +700,7 @@ static void sizes_are(size_t tray_count, size_t length, size_t pair_count, size_
     }
 }
 
+/* among them 512, the size before change request #105 */
 static void tray_sizes(void)
 {
     for (size_t count = 0; count <= VI_TRAY_SIZE + VI_PLACE_SIZE; count++)
@@ -614,20 +714,24 @@ static void tray_sizes(void)
     sizes_are(0, 0, 0, 0);
 }
 
+/* a summary of any numbers: what is kept, whatever the places hold */
+static void kept_is_answered(void)
+{
+    const uint32_t *kept = held + VI_TRAY_KEPT;
+    const int64_t by_a = kept[VI_KEPT_A], settled = kept[VI_KEPT_SETTLED], near_half = kept[VI_KEPT_NEAR], count = by_a + settled + near_half;
+    if (count == 0)
+        summary_is(0, 0, 0, 0, 0, 0, 0);
+    else
+        summary_is(count, kept_64(kept + VI_KEPT_LOWEST), kept_64(kept + VI_KEPT_HIGHEST), kept_64(kept + VI_KEPT_SUM), by_a, settled, near_half);
+}
+
 /* the numbers in `held` are any: each call answers, and changes what the header says */
 static void any_tray(uint32_t number)
 {
-    int64_t count = 0;
+    unsigned count = 0;
     for (size_t i = 0; i < VI_TRAY_PLACES; i++)
         count += held[VI_PLACE_SIZE * i + VI_PLACE_METHOD] != VI_METHOD_REFUSED;
-    const uint32_t *read_only = lend_tray(0);
-    int64_t *row = (int64_t *)lend(SUMMARY_LENT, VI_SUMMARY_SIZE * sizeof *row, 0);
-    uint32_t got = vi_tray_summary(read_only, VI_TRAY_SIZE, row, VI_SUMMARY_SIZE);
-    check(got == VI_ANSWERED && row[VI_SUMMARY_HELD] == count, "the count of any tray", (unsigned long)row[VI_SUMMARY_HELD], (unsigned long)count);
-    const int64_t counted = row[VI_SUMMARY_A] + row[VI_SUMMARY_SETTLED] + row[VI_SUMMARY_NEAR];
-    check(counted == count, "the counts of A and B of any tray", (unsigned long)counted, (unsigned long)count);
-    will_hold(SUMMARY_LENT, row, row, VI_SUMMARY_SIZE * sizeof *row);
-    pages_are_right(VI_ANSWERED);
+    kept_is_answered();
     const size_t at = place_of(0, number);
     put_is(number, 73300, 8860, at < VI_TRAY_PLACES ? VI_NUMBER_HELD : count == VI_TRAY_PLACES ? VI_TRAY_FULL : VI_ANSWERED);
     if (place_of(0, number) == VI_TRAY_PLACES) {
@@ -637,15 +741,17 @@ static void any_tray(uint32_t number)
     uint32_t *tray = lend_tray(0), *pair = (uint32_t *)lend(PAIR_LENT, VI_SAMPLE_PAIR_SIZE * sizeof *pair, 0);
     uint8_t *record = (uint8_t *)lend(RECORD_LENT, VI_RECORD_SIZE, 0);
     uint32_t *place = held + VI_PLACE_SIZE * place_of(0, number);
-    got = vi_tray_take(tray, VI_TRAY_SIZE, number, pair, VI_SAMPLE_PAIR_SIZE, record, VI_RECORD_SIZE);
+    const uint32_t got = vi_tray_take(tray, VI_TRAY_SIZE, number, pair, VI_SAMPLE_PAIR_SIZE, record, VI_RECORD_SIZE);
     check(got == VI_ANSWERED, "a take from any tray", got, VI_ANSWERED);
     check(record[VI_RECORD_NUMBER] == 0 && record[VI_RECORD_METHOD] <= VI_METHOD_B_NEAR && record[2] == 0 && record[3] == 0, "a record of any tray",
           record[VI_RECORD_METHOD], VI_METHOD_B_NEAR);
     will_hold(RECORD_LENT, record, record, VI_RECORD_SIZE);
     will_hold(PAIR_LENT, pair, place + VI_PLACE_U, VI_SAMPLE_PAIR_SIZE * sizeof *pair);
     place[VI_PLACE_METHOD] = VI_METHOD_REFUSED;
+    keep(tray);
     will_hold(TRAY_LENT, tray, held, sizeof held);
     pages_are_right(VI_ANSWERED);
+    kept_is_answered();
 }
 
 static void damaged_trays(void)
@@ -657,11 +763,12 @@ static void damaged_trays(void)
                 held[j] %= j % VI_PLACE_SIZE == VI_PLACE_METHOD ? 5 : 64;
         if (i % 4 == 2)
             memset(held, i % 8 == 2 ? 0xFF : (int)(any() % 256), sizeof held);
-        if (i % 4 == 3) { /* one sample, and one number changed */
-            memset(held, 0, sizeof held);
+        if (i % 4 == 3) { /* one sample, and one number changed, of its place or of what is kept */
+            begin_empty();
             put_is(i % 8 == 3 ? i : any(), 22830, 5050, VI_ANSWERED);
-            held[any() % VI_PLACE_SIZE] = any() % 2 ? any() : any() % 4;
+            held[i % 16 < 8 ? any() % VI_PLACE_SIZE : VI_TRAY_KEPT + any() % VI_KEPT_SIZE] = any() % 2 ? any() : any() % 4;
         }
+        foreign = 1;
         for (unsigned j = 0; j < 4; j++)
             any_tray(j % 2 ? held[VI_PLACE_SIZE * (any() % VI_TRAY_PLACES) + VI_PLACE_NUMBER] : any() >> 12 * j); /* of 32 bits, or of 8 */
     }
@@ -686,6 +793,8 @@ int main(void)
     tray_from_empty_to_full();
     tray_numbers();
     tray_stored();
+    tray_keeps();
+    tray_places_not_read();
     tray_sizes();
     damaged_trays();
     if (failures != 0) {

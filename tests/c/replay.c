@@ -11,8 +11,9 @@
  *   summary: ANSWER, row HELD LOWEST HIGHEST SUM A SETTLED NEAR
  *   end: what the calls have met; it must be the last line
  *
- * A call may have `sizes` behind it and the sizes that are lent, in the order of the function's parameters. All memory but the tray is filled before each
- * call; where it still is as it was filled, the line says so. A line that begins with # is printed as it is. How a tray is laid out shows nowhere.
+ * A call may have `sizes` behind it and the sizes that are lent, in the order of the function's parameters. The size of a tray is written as it was when the
+ * lists were recorded, when 512 numbers were right: what is lent has as many more or fewer than are right now. All memory but the tray is filled before
+ * each call; where it still is as it was filled, the line says so. A line that begins with # is printed as it is. How a tray is laid out shows nowhere.
  */
 #include "viscosity_index.h"
 
@@ -22,17 +23,18 @@
 #include <string.h>
 
 enum { FILL = 0xAA, LINE = 400, NUMBERS = 256, MOST_TRAY = 1024, MOST = 64 };
+enum { TRAY_WRITTEN = 512, TRAY_MORE = (int)VI_TRAY_SIZE - TRAY_WRITTEN }; /* the right size in a list, and how much more is lent */
 enum { ANSWERS = VI_NUMBER_NOT_HELD + 1, METHODS = 4, REFUSED_PAIRS = 8 };
 enum kind { PUT, TAKE, SUMMARY, KINDS };
 
 static const struct form {
     const char *name;
     int words, sizes;  /* how many numbers follow the name, and how many memories are lent */
-    uint32_t right[3]; /* their sizes, in the order of the function's parameters */
+    uint32_t right[3]; /* their sizes as they are written, in the order of the function's parameters */
 } forms[KINDS] = {
-    {"put", 3, 2, {VI_TRAY_SIZE, VI_RECORD_SIZE, 0}},
-    {"take", 1, 3, {VI_TRAY_SIZE, VI_SAMPLE_PAIR_SIZE, VI_RECORD_SIZE}},
-    {"summary", 0, 2, {VI_TRAY_SIZE, VI_SUMMARY_SIZE, 0}},
+    {"put", 3, 2, {TRAY_WRITTEN, VI_RECORD_SIZE, 0}},
+    {"take", 1, 3, {TRAY_WRITTEN, VI_SAMPLE_PAIR_SIZE, VI_RECORD_SIZE}},
+    {"summary", 0, 2, {TRAY_WRITTEN, VI_SUMMARY_SIZE, 0}},
 };
 
 struct call {
@@ -95,7 +97,7 @@ static int read_call(const char *line, struct call *c)
 
 /* ---- making it ---- */
 
-static uint32_t tray[MOST_TRAY], pair[MOST];
+static uint32_t tray[MOST_TRAY + TRAY_MORE], pair[MOST];
 static uint8_t record[MOST];
 static int64_t row[MOST];
 
@@ -108,14 +110,15 @@ static struct {
 static uint32_t make(const struct call *c)
 {
     const uint32_t *of = c->words, *size = c->sizes;
+    const size_t tray_count = (size_t)size[0] + TRAY_MORE;
     memset(pair, FILL, sizeof pair);
     memset(record, FILL, sizeof record);
     memset(row, FILL, sizeof row);
     if (c->kind == PUT)
-        return vi_tray_put(tray, size[0], of[0], of[1], of[2], record, size[1]);
+        return vi_tray_put(tray, tray_count, of[0], of[1], of[2], record, size[1]);
     if (c->kind == TAKE)
-        return vi_tray_take(tray, size[0], of[0], pair, size[1], record, size[2]);
-    return vi_tray_summary(tray, size[0], row, size[1]);
+        return vi_tray_take(tray, tray_count, of[0], pair, size[1], record, size[2]);
+    return vi_tray_summary(tray, tray_count, row, size[1]);
 }
 
 static void count(const struct call *c, uint32_t answer)
@@ -169,7 +172,7 @@ static void print_left(const struct call *c)
 
 static void replay(const struct call *c)
 {
-    uint32_t before[MOST_TRAY];
+    uint32_t before[MOST_TRAY + TRAY_MORE];
     memcpy(before, tray, sizeof before);
     const uint32_t answer = make(c);
     count(c, answer);
@@ -285,7 +288,7 @@ static void list_other_sizes(void)
         struct call c = {(enum kind)kind, {number_that_is(kind == TAKE), 73300, 8860}, {0}};
         memcpy(c.sizes, forms[kind].right, sizeof c.sizes);
         const uint32_t which = below((uint32_t)forms[kind].sizes);
-        c.sizes[which] = which == 0 ? VI_TRAY_SIZE - 1 + 2 * below(2) : others[below(8)];
+        c.sizes[which] = which == 0 ? TRAY_WRITTEN - 1 + 2 * below(2) : others[below(8)];
         print_call(&c);
         printf("\n");
     }

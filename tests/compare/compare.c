@@ -92,6 +92,18 @@ static void print_numbers(void)
         ", the same 24 bits: %" PRIu64 "\n", tally.alike[1], tally.alike[2], tally.alike[3]);
 }
 
+static void print_kept(void)
+{
+    printf("refreshes after these calls %" PRIu64 "; left: the last %" PRIu64 ", one between %" PRIu64
+        ", the lowest %" PRIu64 ", the highest %" PRIu64, tally.refreshes, tally.last_left, tally.between_left,
+        tally.lowest_left[0], tally.highest_left[0]);
+    printf(", and while another had the same index the lowest %" PRIu64 ", the highest %" PRIu64 "\n",
+        tally.lowest_left[1], tally.highest_left[1]);
+    printf("of damaged trays: what is kept beyond its bounds at a put or a take %" PRIu64 ", within them but not the "
+        "samples' %" PRIu64 ", answered though not the samples' %" PRIu64 "; calls with 512 numbers %" PRIu64 "\n",
+        tally.kept_beyond, tally.kept_otherwise, tally.not_the_walk, tally.before_105);
+}
+
 int main(int argc, char **argv)
 {
     if (!options_known(argc, argv)) {
@@ -113,6 +125,7 @@ int main(int argc, char **argv)
     print_constants();
     print_trays();
     print_numbers();
+    print_kept();
     printf("compare: passed: %" PRIu64 " pairs, %" PRIu64 " sheets, %" PRIu64 " constants and %" PRIu64
         " calls with trays agree", tally.pairs, tally.sheets, tally.constants, tally.tray_calls);
     printf(", seed %" PRIu64 ", %ld s\n", seed, (long)(time(NULL) - start));

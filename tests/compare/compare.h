@@ -46,6 +46,13 @@ struct tally {
        2,147,483,647; not held, though one that is held has the same lowest bytes,
        so many of them */
     uint64_t number_0, number_greatest, above_one_byte, above_two_bytes, above_31_bits, alike[4];
+    /* of kept summaries: summaries beside the list's own, one after each call; of
+       undamaged trays the samples that left: the last, one between the lowest and the
+       highest, one of these where no other or where another has its index; of damaged
+       ones: answers that are not the walk's, and puts and takes where what is kept is
+       beyond all bounds, or within them and not the walk's; calls with 512 numbers */
+    uint64_t refreshes, last_left, between_left, lowest_left[2], highest_left[2];
+    uint64_t not_the_walk, kept_beyond, kept_otherwise, before_105;
 };
 extern struct tally tally;
 

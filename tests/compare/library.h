@@ -1,7 +1,7 @@
 /* The C calls, declared here again so that nothing of the library's own header is
    included: from document 01 and change request #101, and those of the tray (#102,
-   and #104 for the numbers of samples) from what the header says. How a tray is
-   laid out the header alone says; tray.h has it again. */
+   #104 for the numbers of samples, #105 for the kept summary) from what the header
+   says. How a tray is laid out the header alone says; tray.h has it again. */
 #ifndef LIBRARY_H
 #define LIBRARY_H
 
@@ -21,7 +21,7 @@ uint32_t vi_sheet(uint8_t *sheet, size_t length);
 uint32_t vi_constant_40(uint32_t viscosity, uint32_t density, int32_t *row, size_t count);
 uint32_t vi_constant_100(uint32_t viscosity, uint32_t density, int32_t *row, size_t count);
 
-/* A tray is 512 numbers. Put answers 0 with the record as vi_pair fills it; 1 to 4,
+/* A tray is 521 numbers. Put answers 0 with the record as vi_pair fills it; 1 to 4,
    31 or 32 if refused. Take answers 0 with u and y and the record; 33 if refused.
    The summary answers 0 with a row of seven. All answer 5 unless each count is the
    right one; a refused call leaves everything. */

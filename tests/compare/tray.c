@@ -2,6 +2,11 @@
 
 #include <string.h>
 
+bool same_summary(const struct summary *a, const struct summary *b)
+{
+    return memcmp(a, b, sizeof *a) == 0;
+}
+
 /* Both trays count a sample so. */
 static void add(struct summary *s, enum method method, int64_t index)
 {
@@ -94,9 +99,7 @@ static enum method method_of(const uint32_t *place)
     return place[AT_METHOD] <= B_SETTLED ? (enum method)place[AT_METHOD] : B_NEAR;
 }
 
-/* The first place that is free, or the first that holds this number; PLACES if
-   there is none. */
-static int first_free(const uint32_t *numbers)
+int first_free(const uint32_t *numbers)
 {
     int i = 0;
     while (i < PLACES && numbers[PLACE * i + AT_METHOD] != 0)
@@ -104,7 +107,7 @@ static int first_free(const uint32_t *numbers)
     return i;
 }
 
-static int first_with(const uint32_t *numbers, uint32_t number)
+int first_with(const uint32_t *numbers, uint32_t number)
 {
     int i = 0;
     while (i < PLACES && (numbers[PLACE * i + AT_METHOD] == 0 || numbers[PLACE * i + AT_NUMBER] != number))
@@ -127,17 +130,28 @@ uint32_t places_take_question(const uint32_t *numbers, uint32_t number)
     return first_with(numbers, number) < PLACES ? 0 : NOT_HELD;
 }
 
-void places_put(uint32_t *numbers, uint32_t number, const struct sample *s)
+/* "by A two's complement, by B without sign" */
+int64_t index_at(const uint32_t *numbers, int place)
 {
-    uint32_t *place = numbers + PLACE * first_free(numbers);
-    place[AT_METHOD] = s->r.method;
-    place[AT_NUMBER] = number;
-    place[AT_U] = s->u;
-    place[AT_Y] = s->y;
-    place[AT_INDEX] = (uint32_t)s->r.index;
-    place[AT_LOWER] = s->r.p;
-    place[AT_UPPER] = s->r.P;
-    place[AT_REST] = 0;
+    const uint32_t *at = numbers + PLACE * place;
+    return at[AT_METHOD] == BY_A ? (int64_t)(int32_t)at[AT_INDEX] : (int64_t)at[AT_INDEX];
+}
+
+int places_held(const uint32_t *numbers)
+{
+    int held = 0;
+    for (int i = 0; i < PLACES; i++)
+        held += numbers[PLACE * i + AT_METHOD] != 0;
+    return held;
+}
+
+struct summary places_summary(const uint32_t *numbers)
+{
+    struct summary s = { 0 };
+    for (int i = 0; i < PLACES; i++)
+        if (numbers[PLACE * i + AT_METHOD] != 0)
+            add(&s, method_of(numbers + PLACE * i), index_at(numbers, i));
+    return s;
 }
 
 /* By A the answer has no fractions, whatever stands in their place. */
@@ -151,39 +165,119 @@ static struct sample sample_at(const uint32_t *place)
     return s;
 }
 
+/* ---- what it keeps ---- */
+
+/* "64 bits in two's complement .. two numbers, the lower 32 bits first" */
+int64_t kept_wide(const uint32_t *numbers, int at)
+{
+    return (int64_t)numbers[at] + (int64_t)(int32_t)numbers[at + 1] * (INT64_C(1) << 32);
+}
+
+void keep_wide(uint32_t *numbers, int at, int64_t value)
+{
+    numbers[at] = (uint32_t)value;
+    numbers[at + 1] = (uint32_t)((uint64_t)value / (UINT64_C(1) << 32));
+}
+
+/* "Where the three counts are 0, no sample is held, whatever the other six are" */
+struct summary kept_summary(const uint32_t *numbers)
+{
+    struct summary s = { .a = numbers[KEPT_A], .settled = numbers[KEPT_SETTLED], .near = numbers[KEPT_NEAR] };
+    s.held = s.a + s.settled + s.near;
+    if (s.held == 0)
+        return s;
+    s.lowest = kept_wide(numbers, KEPT_LOWEST);
+    s.highest = kept_wide(numbers, KEPT_HIGHEST);
+    s.sum = kept_wide(numbers, KEPT_SUM);
+    return s;
+}
+
+void keep_summary(uint32_t *numbers, const struct summary *s)
+{
+    memset(numbers + KEPT, 0, KEPT_SIZE * sizeof *numbers);
+    if (s->a + s->settled + s->near == 0)
+        return;
+    keep_wide(numbers, KEPT_LOWEST, s->lowest);
+    keep_wide(numbers, KEPT_HIGHEST, s->highest);
+    keep_wide(numbers, KEPT_SUM, s->sum);
+    numbers[KEPT_A] = (uint32_t)s->a;
+    numbers[KEPT_SETTLED] = (uint32_t)s->settled;
+    numbers[KEPT_NEAR] = (uint32_t)s->near;
+}
+
+static bool is_index(int64_t index)
+{
+    return index >= INDEX_KEPT_LEAST && index <= INDEX_KEPT_GREATEST;
+}
+
+static bool is_count(int64_t count)
+{
+    return count <= COUNT_KEPT_GREATEST;
+}
+
+/* With none held all are 0, and so within. */
+bool kept_within(const struct summary *s)
+{
+    return is_index(s->lowest) && is_index(s->highest) && s->sum >= SUM_KEPT_LEAST && s->sum <= SUM_KEPT_GREATEST &&
+        is_count(s->a) && is_count(s->settled) && is_count(s->near);
+}
+
+static int64_t *count_of(struct summary *s, enum method method)
+{
+    return method == BY_A ? &s->a : method == B_SETTLED ? &s->settled : &s->near;
+}
+
+/* ---- puts and takes ---- */
+
+void places_put(uint32_t *numbers, uint32_t number, const struct sample *s)
+{
+    uint32_t *place = numbers + PLACE * first_free(numbers);
+    place[AT_METHOD] = s->r.method;
+    place[AT_NUMBER] = number;
+    place[AT_U] = s->u;
+    place[AT_Y] = s->y;
+    place[AT_INDEX] = (uint32_t)s->r.index;
+    place[AT_LOWER] = s->r.p;
+    place[AT_UPPER] = s->r.P;
+    place[AT_REST] = 0;
+    struct summary kept = kept_summary(numbers);
+    if (kept_within(&kept))
+        add(&kept, s->r.method, s->r.index);
+    else
+        kept = places_summary(numbers);
+    keep_summary(numbers, &kept);
+}
+
+/* The sample that was at this place has left. With none held nothing is between. */
+static void keep_without(uint32_t *numbers, enum method method, int64_t index)
+{
+    struct summary kept = kept_summary(numbers);
+    int64_t *count = count_of(&kept, method);
+    if (kept.held != 0 && kept_within(&kept) && kept.lowest < index && index < kept.highest) {
+        kept.sum -= index;
+        *count -= *count > 0;
+    } else {
+        kept = places_summary(numbers);
+    }
+    keep_summary(numbers, &kept);
+}
+
 struct sample places_take(uint32_t *numbers, uint32_t number)
 {
-    uint32_t *place = numbers + PLACE * first_with(numbers, number);
+    int at = first_with(numbers, number);
+    uint32_t *place = numbers + PLACE * at;
     struct sample s = sample_at(place);
+    int64_t index = index_at(numbers, at);
     place[AT_METHOD] = 0;
+    keep_without(numbers, s.r.method, index);
     return s;
-}
-
-struct summary places_summary(const uint32_t *numbers)
-{
-    struct summary s = { 0 };
-    for (const uint32_t *place = numbers; place < numbers + TRAY; place += PLACE) {
-        enum method method = method_of(place);
-        /* "by A two's complement, by B without sign" */
-        if (method != 0)
-            add(&s, method, method == BY_A ? (int64_t)(int32_t)place[AT_INDEX] : (int64_t)place[AT_INDEX]);
-    }
-    return s;
-}
-
-int places_held(const uint32_t *numbers)
-{
-    int held = 0;
-    for (int i = 0; i < PLACES; i++)
-        held += numbers[PLACE * i + AT_METHOD] != 0;
-    return held;
 }
 
 const char *tray_fault(const struct tray *t, const uint32_t *numbers)
 {
     bool seen[HELD_GREATEST] = { false };
     int count = 0;
-    for (const uint32_t *place = numbers; place < numbers + TRAY; place += PLACE) {
+    for (const uint32_t *place = numbers; place < numbers + KEPT; place += PLACE) {
         if (place[AT_METHOD] == 0)
             continue;
         int at = less_than(t, place[AT_NUMBER]);
@@ -200,5 +294,8 @@ const char *tray_fault(const struct tray *t, const uint32_t *numbers)
         seen[at] = true;
         count++;
     }
-    return count == t->count ? NULL : "a sample that was put in is not held";
+    if (count != t->count)
+        return "a sample that was put in is not held";
+    struct summary kept = kept_summary(numbers), wanted = summary_of(t);
+    return same_summary(&kept, &wanted) ? NULL : "what is kept is not what a walk over the samples held gives";
 }

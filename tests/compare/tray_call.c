@@ -28,18 +28,29 @@ const int64_t *last_row(void)
     return (const int64_t *)(const void *)row_lent.bytes;
 }
 
-static void lend_all(const struct tested *t, const struct call *c)
+static void lend_row(const struct call *c)
 {
-    lend(&record_lent, c->sizes.record, 1);
-    lend(&pair_lent, c->sizes.pair * sizeof(uint32_t), sizeof(uint32_t));
     lend(&row_lent, c->sizes.row * sizeof(int64_t), sizeof(int64_t));
+}
+
+/* Where it is already, or somewhere else. */
+static void lend_tray(const struct tested *t, const struct call *c, bool stays)
+{
     size_t size = c->sizes.tray * sizeof(uint32_t);
-    if (t->in_place && size == sizeof t->numbers && tray_lent.size == size) {
+    if (stays && size == sizeof t->numbers && tray_lent.size == size) {
         keep_lent(&tray_lent);
         return;
     }
     lend(&tray_lent, size, sizeof(uint32_t));
     put_lent(&tray_lent, t->numbers, size < sizeof t->numbers ? size : sizeof t->numbers);
+}
+
+static void lend_all(const struct tested *t, const struct call *c)
+{
+    lend(&record_lent, c->sizes.record, 1);
+    lend(&pair_lent, c->sizes.pair * sizeof(uint32_t), sizeof(uint32_t));
+    lend_row(c);
+    lend_tray(t, c, t->in_place);
 }
 
 /* Of no bytes there may be no place. */
@@ -99,14 +110,16 @@ static void want_record(const struct record *r)
     want_lent(&record_lent, bytes, sizeof bytes);
 }
 
+/* What is kept; by the requests a walk over the samples held. */
 static void want_summary(const struct tested *t)
 {
-    struct summary s = places_summary(t->numbers), by_request = summary_of(&t->model);
-    if (!t->damaged && memcmp(&s, &by_request, sizeof s) != 0)
+    struct summary s = kept_summary(t->numbers), by_places = places_summary(t->numbers);
+    struct summary by_request = summary_of(&t->model);
+    if (!t->damaged && (!same_summary(&s, &by_request) || !same_summary(&by_places, &by_request)))
         fail("the two trays of the comparison differ", NULL);
     int64_t row[SUMMARY_ROW] = { s.held, s.lowest, s.highest, s.sum, s.a, s.settled, s.near };
     want_lent(&row_lent, row, sizeof row);
-    tally.summaries++;
+    tally.not_the_walk += !same_summary(&s, &by_places);
     if (t->damaged)
         return;
     tally.summaries_at[s.held]++;
@@ -134,6 +147,7 @@ static void work_model(struct tested *t, const struct call *c, const struct reco
         want_record(&s.r);
         break;
     default:
+        tally.summaries++;
         want_summary(t);
     }
 }
@@ -168,7 +182,7 @@ static void check_tray(struct tested *t, const struct call *c, uint32_t number)
 static int bytes_alike(const uint32_t *numbers, uint32_t number)
 {
     int most = 0;
-    for (const uint32_t *place = numbers; place < numbers + TRAY; place += PLACE) {
+    for (const uint32_t *place = numbers; place < numbers + KEPT; place += PLACE) {
         uint32_t differs = place[AT_NUMBER] ^ number;
         int alike = differs == 0 ? 4 : __builtin_ctz(differs) / 8;
         if (place[AT_METHOD] != 0 && alike > most)
@@ -189,11 +203,40 @@ static void count_number(uint32_t number, int alike)
         tally.alike[bytes] += alike < 4 && alike >= bytes;
 }
 
+/* Of a sample that is about to leave: whether it is the last, the only one that is
+   the lowest or the highest, one of several, or between them. */
+static void count_leaving(const struct tray *t, int64_t index)
+{
+    struct summary s = summary_of(t);
+    int same = 0;
+    for (int i = 0; i < t->count; i++)
+        same += t->samples[i].r.index == index;
+    tally.last_left += s.held == 1;
+    tally.between_left += s.lowest < index && index < s.highest;
+    if (s.held == 1)
+        return;
+    tally.lowest_left[same > 1] += index == s.lowest;
+    tally.highest_left[same > 1] += index == s.highest;
+}
+
+/* Of a put or a take that is about to change what a damaged tray keeps. */
+static void count_kept(const struct tested *t, const struct call *c)
+{
+    struct summary s = kept_summary(t->numbers), by_places = places_summary(t->numbers);
+    if (t->damaged && c->kind != SUMMARY) {
+        tally.kept_beyond += !kept_within(&s);
+        tally.kept_otherwise += kept_within(&s) && !same_summary(&s, &by_places);
+    } else if (c->kind == TAKE) {
+        count_leaving(&t->model, index_at(t->numbers, first_with(t->numbers, c->number)));
+    }
+}
+
 static void count(const struct tested *t, const struct call *c, uint32_t number, uint8_t method, int alike, bool full)
 {
     tally.tray_calls++;
     tally.tray_refused[number]++;
     tally.damaged_calls += t->damaged;
+    tally.before_105 += c->sizes.tray == KEPT;
     tally.put_in[method] += number == 0 && c->kind == PUT;
     tally.taken_out += number == 0 && c->kind == TAKE;
     bool of_the_pair = number >= 1 && number <= 4;
@@ -205,6 +248,23 @@ static void count(const struct tested *t, const struct call *c, uint32_t number,
 }
 
 /* ---- the call ---- */
+
+/* "a refresh answers from them alone": after every call, whatever was answered, the
+   tray as the call left it, and where. */
+static void refresh(const struct tested *t)
+{
+    const struct call c = { SUMMARY, 0, 0, 0, right_sizes };
+    now_tray("refresh", 0, places_held(t->numbers), tally.tray_lists);
+    lend_row(&c);
+    lend_tray(t, &c, true);
+    if (call_library(&c) != 0)
+        fail("the number of a refresh", NULL);
+    want_summary(t);
+    check_lent(&row_lent, t->damaged ? "a refresh is not what is kept"
+                                     : "a refresh is not what a walk over the samples gives");
+    check_lent(&tray_lent, "a refresh changed it");
+    tally.refreshes++;
+}
 
 void make_call(struct tested *t, const struct call *c)
 {
@@ -219,14 +279,18 @@ void make_call(struct tested *t, const struct call *c)
     lend_all(t, c);
     if (call_library(c) != number)
         fail("the number of a call with a tray", NULL);
-    if (number == 0)
+    if (number == 0) {
+        count_kept(t, c);
         work_model(t, c, &answer);
+    }
     const char *what = number != 0 ? "a refused call changed it" : "it is not what the call gives";
     check_lent(&record_lent, what);
     check_lent(&pair_lent, what);
     check_lent(&row_lent, what);
     check_tray(t, c, number);
     count(t, c, number, answer.method, alike, filled == HELD_GREATEST);
+    if (c->kind != SUMMARY || number != 0)
+        refresh(t);
 }
 
 void put(struct tested *t, uint32_t number, uint32_t u, uint32_t y)

@@ -1,5 +1,5 @@
 /* One call with a tray: made through the library, and everything about it
-   compared with tray.c. */
+   compared with tray.c; then the refresh of a screen, likewise. */
 #ifndef TRAY_CALL_H
 #define TRAY_CALL_H
 
@@ -33,6 +33,7 @@ void make_tray_rooms(void);
 /* The next call lends the tray from another place, where it was in place too. */
 void move_tray(void);
 
+/* The call, and unless it is an answered summary one more that is. */
 void make_call(struct tested *t, const struct call *c);
 /* The same with the right sizes. */
 void put(struct tested *t, uint32_t number, uint32_t u, uint32_t y);

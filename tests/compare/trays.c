@@ -1,6 +1,7 @@
 /* The trays: lists of calls of every kind from an empty tray, and calls with
    damaged ones. tray_call.c compares each call. */
 #include "compare.h"
+#include "tray_kept.h"
 #include "tray_numbers.h"
 
 #include <stdio.h>
@@ -124,7 +125,7 @@ static void call_with_other_sizes(struct list *l)
     do {
         switch (random_in(0, 3)) {
         case 0:
-            c.sizes.tray = other_size(TRAY, 2 * TRAY);
+            c.sizes.tray = random_in(0, 3) == 0 ? KEPT : other_size(TRAY, 2 * TRAY);   /* as before #105 */
             break;
         case 1:
             c.sizes.record = other_size(RECORD, 64);
@@ -271,8 +272,8 @@ static void damage(struct list *l)
         case 5:                 /* every part at its edges; numbers twice */
             l->t.numbers[i] = i % PLACE == AT_NUMBER && random_in(0, 7) != 0 ? any_number(l) : edge();
             break;
-        case 6:                 /* all free, whatever else they hold */
-            l->t.numbers[i] = i % PLACE == AT_METHOD ? 0 : edge();
+        case 6:                 /* all free, whatever else they hold and is kept */
+            l->t.numbers[i] = i < KEPT && i % PLACE == AT_METHOD ? 0 : edge();
             break;
         default:
             break;
@@ -439,8 +440,9 @@ static void every_size(int level)
     begin_list(&l);
     l.numbers.spread = SPREAD_GREATEST;
     go_to(&l, level);
-    /* 2,048 is the count of bytes. */
-    static const size_t counts[] = { 0, 1, 7, 8, 9, 63, 64, 65, 255, 256, 504, 510, 511, 513, 514, 520, 1024, 2048 };
+    /* 512 is the count before #105, 2,084 that of bytes. */
+    static const size_t counts[] = { 0, 1, 7, 8, 9, 63, 64, 65, 255, 256, 504, 511, 512, 513, 514, 519, 520, 522, 523,
+        529, 1024, 1042, 2048, 2084 };
     struct sizes s = right_sizes;
     for (size_t i = 0; i < sizeof counts / sizeof *counts; i++) {
         s.tray = counts[i];
@@ -463,14 +465,25 @@ void compare_trays(uint64_t wanted)
     every_fill();
     every_number();
     compare_numbers();
+    compare_kept();
     every_size(0);
     every_size(7);
     every_size(HELD_GREATEST);
     while (tally.tray_calls < wanted) {
-        if (random_in(0, 2) == 0)
+        switch (random_in(0, 7)) {
+        case 0:
+        case 1:
             damaged_list();
-        else
+            break;
+        case 2:
+            foreign_list();
+            break;
+        case 3:
+            few_oils_list();
+            break;
+        default:
             random_list();
+        }
         progress("calls with trays", tally.tray_calls, wanted);
     }
 }

@@ -58,7 +58,7 @@ static uint32_t cut(uint32_t number)
    none. */
 static uint32_t *place_taken_for(uint32_t *tray, uint32_t number)
 {
-    for (uint32_t *place = tray; place < tray + TRAY; place += PLACE)
+    for (uint32_t *place = tray; place < tray + KEPT; place += PLACE)
         if (place[AT_METHOD] != 0 && taken_for(place[AT_NUMBER], number))
             return place;
     return NULL;
@@ -76,12 +76,12 @@ static bool kept_out(uint32_t *tray, uint32_t number)
         (WRONG == GREATEST_REFUSED && number == UINT32_MAX);
 }
 
-/* The first place that is free, or that the fault takes for free; the tray's end if
+/* The first place that is free, or that the fault takes for free; the places' end if
    there is none. */
 static uint32_t *free_place(uint32_t *tray)
 {
     uint32_t *place = tray;
-    while (place < tray + TRAY && place[AT_METHOD] != 0 && !(WRONG == NUMBER_0_OVERWRITTEN && place[AT_NUMBER] == 0))
+    while (place < tray + KEPT && place[AT_METHOD] != 0 && !(WRONG == NUMBER_0_OVERWRITTEN && place[AT_NUMBER] == 0))
         place += PLACE;
     return place;
 }
@@ -101,7 +101,7 @@ uint32_t __wrap_vi_tray_put(uint32_t *tray, size_t tray_count, uint32_t number, 
         return __real_vi_tray_put(tray, tray_count, number, u, y, record, length);
     if (kept_out(tray, number))
         return NUMBER_HELD;
-    uint32_t *place = free_place(tray), none = 0, *method = place < tray + TRAY ? place + AT_METHOD : &none;
+    uint32_t *place = free_place(tray), none = 0, *method = place < tray + KEPT ? place + AT_METHOD : &none;
     uint32_t before = *method;
     *method = 0;
     uint32_t answer = __real_vi_tray_put(tray, TRAY, cut(number), u, y, record, RECORD);
@@ -131,13 +131,19 @@ uint32_t __wrap_vi_tray_take(uint32_t *tray, size_t tray_count, uint32_t number,
 
 uint32_t __wrap_vi_tray_summary(const uint32_t *tray, size_t tray_count, int64_t *row, size_t row_count)
 {
-    if (tray_count != TRAY)
-        return __real_vi_tray_summary(tray, tray_count, row, row_count);
-    uint32_t read[TRAY];
+    uint32_t answer = __real_vi_tray_summary(tray, tray_count, row, row_count), read[TRAY];
+    if (answer != 0)
+        return answer;
+    bool counted = true;
     memcpy(read, tray, sizeof read);
-    for (uint32_t *place = read; place < read + TRAY; place += PLACE)
-        if ((WRONG == GREATEST_NOT_COUNTED && place[AT_NUMBER] == UINT32_MAX) ||
-            (WRONG == NUMBER_0_NOT_COUNTED && place[AT_NUMBER] == 0))
+    for (uint32_t *place = read; place < read + KEPT; place += PLACE)
+        if (place[AT_METHOD] != 0 && ((WRONG == GREATEST_NOT_COUNTED && place[AT_NUMBER] == UINT32_MAX) ||
+            (WRONG == NUMBER_0_NOT_COUNTED && place[AT_NUMBER] == 0))) {
             place[AT_METHOD] = 0;
-    return __real_vi_tray_summary(read, TRAY, row, row_count);
+            counted = false;
+        }
+    struct summary others = places_summary(read);
+    if (!counted)
+        memcpy(row, &others, sizeof others);
+    return 0;
 }

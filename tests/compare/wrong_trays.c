@@ -34,24 +34,6 @@ static uint32_t *place_of(uint32_t *tray, int place)
     return tray + PLACE * place;
 }
 
-/* The first place that holds this number, and the first free one; PLACES if there
-   is none. */
-static int place_with(const uint32_t *tray, uint32_t number)
-{
-    int i = 0;
-    while (i < PLACES && (tray[PLACE * i] == 0 || tray[PLACE * i + AT_NUMBER] != number))
-        i++;
-    return i;
-}
-
-static int free_place(const uint32_t *tray)
-{
-    int i = 0;
-    while (i < PLACES && tray[PLACE * i] != 0)
-        i++;
-    return i;
-}
-
 /* Other fractions that show the same index: as wide as they may be. */
 static void widen(struct record *r)
 {
@@ -81,7 +63,7 @@ static uint64_t remembered;     /* how many are held, whatever tray it is */
 /* A number that is answered without the library; 0 if none is. */
 static uint32_t asked_wrongly(const uint32_t *tray, uint32_t number, uint32_t u, uint32_t y)
 {
-    bool held = place_with(tray, number) < PLACES, full = free_place(tray) == PLACES;
+    bool held = first_with(tray, number) < PLACES, full = first_free(tray) == PLACES;
     if (WRONG == HELD_FIRST && held)
         return NUMBER_HELD;
     if (WRONG == FULL_FIRST && full)
@@ -101,12 +83,12 @@ static uint32_t asked_wrongly(const uint32_t *tray, uint32_t number, uint32_t u,
 static uint32_t let_in(uint32_t number_answered, uint32_t *tray, uint32_t number, uint32_t u, uint32_t y,
     uint8_t *record)
 {
-    int held = place_with(tray, number);
+    int held = first_with(tray, number);
     if (WRONG == REPLACES && number_answered == NUMBER_HELD)
         place_of(tray, held)[AT_METHOD] = 0;
     else if (WRONG == OVERWRITES_LAST && number_answered == TRAY_FULL)
         place_of(tray, PLACES - 1)[AT_METHOD] = 0;
-    else if (WRONG == HELD_TWICE && number_answered == NUMBER_HELD && free_place(tray) < PLACES)
+    else if (WRONG == HELD_TWICE && number_answered == NUMBER_HELD && first_free(tray) < PLACES)
         place_of(tray, held)[AT_NUMBER] = ~number;
     else
         return number_answered;
@@ -119,7 +101,7 @@ static uint32_t let_in(uint32_t number_answered, uint32_t *tray, uint32_t number
 static void spoil_refused_put(uint32_t answer, uint32_t *tray, uint32_t number, uint32_t u, uint32_t y,
     uint8_t *record)
 {
-    int held = place_with(tray, number), place = free_place(tray);
+    int held = first_with(tray, number), place = first_free(tray);
     if (WRONG == REFUSED_STORED && answer <= 4 && place < PLACES)
         memcpy(place_of(tray, place), (uint32_t[]){ B_NEAR, number, u, y, 0, 0, 0, 0 }, PLACE * sizeof *tray);
     if (WRONG == HELD_CHANGES_INDEX && answer == NUMBER_HELD)
@@ -131,7 +113,7 @@ static void spoil_refused_put(uint32_t answer, uint32_t *tray, uint32_t number, 
 /* The sample stands where the first free place was. */
 static void spoil_put(uint32_t *tray, const uint32_t *before, uint8_t *record, const uint8_t *record_before)
 {
-    int at = free_place(before), last = PLACES - 1;
+    int at = first_free(before), last = PLACES - 1;
     uint32_t *place = place_of(tray, at);
     struct record r = record_of_bytes(record);
     while (before[PLACE * last] != 0)
@@ -249,7 +231,7 @@ static void spoil_taken(uint32_t *tray, uint32_t *place, const uint32_t *before,
         place[AT_METHOD] = held[AT_METHOD];
         break;
     case NEIGHBOUR_TOO:
-        if (place + PLACE < tray + TRAY)
+        if (place + PLACE < tray + KEPT)
             place[PLACE + AT_METHOD] = 0;
         break;
     case Y_FIRST:
@@ -292,7 +274,7 @@ uint32_t __wrap_vi_tray_take(uint32_t *tray, size_t tray_count, uint32_t number,
     memcpy(before, tray, sizeof before);
     number = WRONG == FIRST_TAKEN ? first_number(tray, number) : number;
     misread(tray, number);
-    int at = place_with(tray, number);
+    int at = first_with(tray, number);
     bool not_held = (WRONG == NUMBER_0_NOT_HELD && number == 0) ||
         (WRONG == METHOD_4_REFUSED && at < PLACES && place_of(tray, at)[AT_METHOD] > B_NEAR);
     if (at < PLACES)
@@ -314,11 +296,6 @@ uint32_t __wrap_vi_tray_take(uint32_t *tray, size_t tray_count, uint32_t number,
 }
 
 /* ---- summary ---- */
-
-static int64_t index_at(const uint32_t *tray, int place)
-{
-    return (int32_t)tray[PLACE * place + AT_INDEX];
-}
 
 /* The lowest above the one that was taken out, the highest below it. */
 static void without_gone(struct summary *s, const uint32_t *tray)
@@ -352,13 +329,21 @@ static void with_sign_changed(struct summary *s, const uint32_t *tray)
 {
     uint32_t other[TRAY];
     memcpy(other, tray, sizeof other);
-    for (uint32_t *place = other; place < other + TRAY; place += PLACE)
+    for (uint32_t *place = other; place < other + KEPT; place += PLACE)
         if (place[AT_METHOD] != 0)
             place[AT_METHOD] = WRONG == WITHOUT_SIGN ? B_NEAR : BY_A;
     struct summary by_other = places_summary(other);
     s->lowest = by_other.lowest;
     s->highest = by_other.highest;
     s->sum = by_other.sum;
+}
+
+static void without_last(struct summary *s, const uint32_t *tray)
+{
+    uint32_t read[TRAY];
+    memcpy(read, tray, sizeof read);
+    place_of(read, PLACES - 1)[AT_METHOD] = 0;
+    *s = places_summary(read);
 }
 
 static void spoil_summary(struct summary *s, const uint32_t *tray)
@@ -398,11 +383,16 @@ static void spoil_summary(struct summary *s, const uint32_t *tray)
     case B_WITH_SIGN:
         with_sign_changed(s, tray);
         break;
+    case LAST_NOT_SEEN:
+        without_last(s, tray);
+        break;
     default:
         break;
     }
 }
 
+/* A fault shows where what is kept is what a walk gives: where it is not, all that a
+   walk does wrong is gone. */
 uint32_t __wrap_vi_tray_summary(const uint32_t *tray, size_t tray_count, int64_t *row, size_t row_count)
 {
     if (WRONG == SUMMARY_TRAY_ANY && tray_count > TRAY)
@@ -411,15 +401,12 @@ uint32_t __wrap_vi_tray_summary(const uint32_t *tray, size_t tray_count, int64_t
         row_count = SUMMARY_ROW;
     if (tray_count != TRAY || row_count != SUMMARY_ROW)
         return __real_vi_tray_summary(tray, tray_count, row, row_count);
-    uint32_t read[TRAY];
-    struct summary s;
-    memcpy(read, tray, sizeof read);
-    if (WRONG == LAST_NOT_SEEN)
-        place_of(read, PLACES - 1)[AT_METHOD] = 0;
-    __real_vi_tray_summary(read, TRAY, &s.held, SUMMARY_ROW);
-    spoil_summary(&s, tray);
-    if (WRONG == SUMMARY_CHANGES && free_place(tray) < PLACES)
-        place_of((uint32_t *)(uintptr_t)tray, free_place(tray))[AT_REST]++;
+    struct summary s, walked = places_summary(tray);
+    __real_vi_tray_summary(tray, TRAY, &s.held, SUMMARY_ROW);
+    if (same_summary(&s, &walked))
+        spoil_summary(&s, tray);
+    if (WRONG == SUMMARY_CHANGES && first_free(tray) < PLACES)
+        place_of((uint32_t *)(uintptr_t)tray, first_free(tray))[AT_REST]++;
     if (WRONG == BESIDE_ROW)
         row[-1] = 0;
     if (WRONG != ROW_AS_FOUND)

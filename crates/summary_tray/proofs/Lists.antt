@@ -151,7 +151,7 @@ unfolding tray_after_take
 take_left l n (Err r) e p = rw e
 take_left l n (Ok s) e p = absurd (omega arith)
 
-refused_left : (l : List ℕ) (c : Call) → 0 < call_refusal l c → after l c ≡ l
+pub refused_left : (l : List ℕ) (c : Call) → 0 < call_refusal l c → after l c ≡ l
 refused_left l (Put n u y) p = put_left l n u y (put_answer l n u y) refl p
 refused_left l (Take n) p = take_left l n (take_answer l n) refl p
 refused_left l Ask p = refl

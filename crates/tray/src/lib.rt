@@ -1,7 +1,7 @@
 // A tray that fills and empties, in memory that the caller lends: samples are put in and taken out under their numbers, and the state of the tray is asked
 // for. Each call answers for any numbers in that memory, and says what stands in it afterwards; over every list of calls from an empty tray,
 // samples held are samples taken in less samples taken out (specs/EveryListOfCalls.antt). Module `state` walks over what is held; module `refusal` says
-// why a call is refused.
+// why a call is refused. Crate summary_tray keeps beside these places what the walk gives.
 #![tactic(auto)]
 
 pub mod refusal;

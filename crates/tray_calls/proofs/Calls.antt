@@ -24,12 +24,11 @@ use Rattle.index_summary.specs.declared.Summary.{Summary}
 use Rattle.tray_places.specs.declared.samples.Sample.{Sample}
 use Rattle.tray_places.specs.declared.samples.Place.{Place}
 use Rattle.tray_places.specs.Samples.{place_of}
-use Rattle.tray_places.specs.Places.{tray_size}
 use Rattle.tray.specs.declared.refusal.Refusal.{Refusal}
-use Rattle.tray.specs.Tray.{number_of_refusal, hold_answer, sample_with, tray_holding, put_answer, tray_after_put, take_answer, tray_after_take}
-use Rattle.tray.proofs.Questions.{put_5, put_pair, put_refused, put_held}
-use Rattle.tray.specs.State.{state_of}
+use Rattle.tray.specs.Tray.{number_of_refusal, sample_with}
 use Rattle.tray.specs.Calls.{refused_by}
+use Rattle.summary_tray.specs.SummaryTray.{tray_size, hold_answer, tray_holding, put_answer, tray_after_put, take_answer, tray_after_take, state_of}
+use Rattle.summary_tray.proofs.Parts.{put_5, place_pair, place_refused, place_held}
 use Rattle.tray_calls.specs.TrayCalls.{not_its_size, record_with, place_from, put_number, tray_put, record_put, pair_size, pair_with, record_from, take_number, tray_taken, pair_taken, record_taken, row_size, row_with, summary_number, summary_after}
 
 -- ---- putting in
@@ -71,7 +70,7 @@ module _ (tray lent : List ℕ) (n u y : ℕ) {filled : List ℕ} (Filled-is : f
 
   pub put_no_tray : length lent ≡ result_size → (length tray ≡ tray_size → ⊥) → PutLeaves tray lent n u y not_its_size tray lent
   put_no_tray h t =
-      let by = put_5 tray n u y t in
+      let by = put_5 tray n t u y in
       put_done tray lent n u y (Err NotATray) h by.0 by.1 refl refl
 
   module _ (h : length lent ≡ result_size) (t : length tray ≡ tray_size) where
@@ -80,7 +79,7 @@ module _ (tray lent : List ℕ) (n u y : ℕ) {filled : List ℕ} (Filled-is : f
       where
         by_case : (a : Answer) → a ≡ answer_of u y → PutLeaves tray lent n u y (get_or filled 0 0) tray lent
         by_case (Err q) e =
-            let by = put_pair tray n u y t e (subst (RightAnswer u y) (sym e) (right u y)) in
+            let by = place_pair tray n t u y e (subst (RightAnswer u y) (sym e) (right u y)) in
             put_done tray lent n u y (Err (Pair q)) h by.0 by.1 (number_there ∙ ap number_of (sym e)) refl
         by_case (Ok i) e = absurd (z (number_there ∙ ap number_of (sym e)))
 
@@ -100,13 +99,13 @@ module _ (tray lent : List ℕ) (n u y : ℕ) {filled : List ℕ} (Filled-is : f
       pub put_not_held : {r : Refusal} → Err r ≡ hold_answer tray n → PutLeaves tray lent n u y (number_of_refusal r) m lent
       put_not_held {r} e =
           by_index (λ i is right p.
-          let by = put_refused tray n u y t is right p m-is e in
+          let by = place_refused tray n t u y is right p m-is e in
           put_done tray lent n u y (Err r) h by.0 by.1 refl refl)
 
       pub put_in : {after : List ℕ} → Ok tt ≡ hold_answer tray n → after ≡ filled → PutLeaves tray lent n u y 0 m after
       put_in {after} e f =
           by_index (λ i is right p.
-          let by = put_held tray n u y t is right p m-is e in
+          let by = place_held tray n t u y is right p m-is e in
           put_done tray lent n u y (Ok i) h by.0 by.1 refl (f ∙ Filled-is ∙ ap record_of (sym is)))
 
 -- ---- taking out

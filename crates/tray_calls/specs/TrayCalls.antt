@@ -1,5 +1,6 @@
--- Change request #102 in C, by document 01's rule for the pair call: each lent memory is first asked whether it has just its size (no: 5, all untouched); then the
--- tray's own questions, of which the first no gives its number, with all lent memory untouched; otherwise what was asked for is filled in, and 0 is answered.
+-- Change requests #102 and #105 in C, by document 01's rule for the pair call: each lent memory is first asked whether it has just its size (no: 5, all
+-- untouched); then the tray's own questions, of which the first no gives its number, with all lent memory untouched; otherwise what was asked for is filled in,
+-- and 0 is answered.
 use Rattle.std.specs.Prelude.{ℕ, ◌+◌, Bool, cond, ◌&&◌, List, [], ◌∷◌, eqb, ℤ, pos, length, get_or, Option, Some, None, Result, Ok, Err}
 use Rattle.laws.specs.Questions.{ask}
 use Rattle.index.specs.declared.answer.Index.{Index}
@@ -9,9 +10,8 @@ use Rattle.index_summary.specs.declared.Summary.{Summary}
 use Rattle.tray_places.specs.declared.samples.Place.{Place}
 use Rattle.tray_places.specs.declared.samples.Sample.{Sample}
 use Rattle.tray.specs.declared.refusal.Refusal.{Refusal}
-use Rattle.tray.specs.Tray.{put_answer, tray_after_put, take_answer, tray_after_take}
-use Rattle.tray.specs.State.{state_of}
 use Rattle.tray.specs.Calls.{refused_by}
+use Rattle.summary_tray.specs.SummaryTray.{put_answer, tray_after_put, take_answer, tray_after_take, state_of}
 
 -- the number of the questions about sizes
 abbrev pub not_its_size : ℕ
@@ -83,7 +83,7 @@ pair_taken tray pair lent number = cond (just_these pair lent) (pair_with pair (
 unfoldable pub record_taken : List ℕ → List ℕ → List ℕ → ℕ → List ℕ
 record_taken tray pair lent number = cond (just_these pair lent) (record_from lent (take_answer tray number)) lent
 
--- ---- the summary: a tray is lent to read, and a row of seven numbers
+-- ---- the summary, since #105 by what the tray keeps: a tray is lent to read, and a row of seven numbers
 
 abbrev pub row_size : ℕ
 row_size = 7

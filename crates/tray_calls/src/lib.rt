@@ -11,7 +11,7 @@ ghost use Rattle.tray_calls.specs.TrayCalls.{place_from, state_row, put_number, 
 use answer_record::layout::{INDEX_AT, LOWER_AT, METHOD_AT, RESULT_SIZE, UPPER_AT};
 use answer_record::{number_at, write_result};
 use index::answer::ANSWERED;
-use tray::{Place, Refusal, Summary, TRAY_SIZE};
+use summary_tray::{Place, Refusal, Summary, TRAY_SIZE};
 
 // What is answered where a lent memory has not its size, and where no question refuses.
 const NOT_ITS_SIZE: u32 = 5;
@@ -75,7 +75,7 @@ pub fn put_answered(
         return u32::from(pair);
     }
     let place = place_from(filled, number, u, y);
-    match tray::hold(tray, number, place) {
+    match summary_tray::hold(tray, number, place) {
         Err(refusal) => number_of(refusal),
         Ok(()) => {
             record.copy_from_slice(filled);
@@ -98,7 +98,7 @@ pub fn take_sample(tray: &mut [u32], number: u32, pair: &mut [u32], record: &mut
     if record.len() != RESULT_SIZE {
         return NOT_ITS_SIZE;
     }
-    match tray::take(tray, number) {
+    match summary_tray::take(tray, number) {
         Err(refusal) => number_of(refusal),
         Ok(sample) => {
             pair.copy_from_slice(&[sample.u, sample.y]);
@@ -127,19 +127,19 @@ fn state_row(state: Option<Summary>) -> [i64; SUMMARY_SIZE]
     ]
 }
 
-// The summary of a tray as a row.
+// The summary that a tray keeps as a row.
 #[tactic(auto, unfolding(crate::specs::TrayCalls::summary_number, crate::specs::TrayCalls::summary_after))]
 pub fn fill_summary(tray: &[u32], row: &mut [i64]) -> u32
     ensures number { result ≡ summary_number tray.now row.old }
     ensures numbers { row.new ≡ summary_after tray.now row.old }
 {
-    if row.len() != SUMMARY_SIZE {
+    let Some(row) = row.as_mut_array::<SUMMARY_SIZE>() else {
         return NOT_ITS_SIZE;
-    }
-    match tray::summary(tray) {
+    };
+    match summary_tray::summary(tray) {
         Err(refusal) => number_of(refusal),
         Ok(state) => {
-            row.copy_from_slice(&state_row(state));
+            *row = state_row(state);
             DONE
         }
     }

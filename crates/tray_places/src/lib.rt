@@ -1,6 +1,6 @@
-// Where are the samples of a tray? The tray is memory that the caller lends: 64 places of eight 32-bit numbers. A place whose first number is 0 is free,
-// whatever else it holds, so that memory of zeros is the empty tray and any numbers are some tray. Module `samples` says what the numbers of a
-// place mean.
+// Where are the samples of a tray? The tray is memory that the caller lends: 64 places of eight 32-bit numbers, behind which a tray of C has nine more that keep its
+// summary (crate summary_tray). A place whose first number is 0 is free, whatever else it holds, so that memory of zeros is the empty tray and any numbers are some
+// tray. Module `samples` says what the numbers of a place mean.
 #![tactic(auto)]
 
 mod samples;

@@ -105,7 +105,7 @@ pub extern "C" fn vi_tray_take(
     tray_calls::take_sample(tray, number, pair, record)
 }
 
-// The summary of a lent tray, as a row of seven numbers: all zeros where no sample is held. Where the tray or the row has not its size, 5 is answered
+// The summary that a lent tray keeps, as a row of seven numbers: all zeros where none is counted. Where the tray or the row has not its size, 5 is answered
 // and the row is left as it is.
 #[unsafe(no_mangle)]
 pub extern "C" fn vi_tray_summary(tray: &[u32], row: &mut [i64]) -> u32
