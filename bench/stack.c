@@ -168,7 +168,7 @@ static uint32_t wide(uint32_t i)
     return (uint32_t)APART * i;
 }
 
-/* a tray of any numbers; what it keeps is any too, or every other time below 2^32 */
+/* a tray of any numbers; what it keeps is any too, or every other time so small that one sample more may be added */
 static void draw_tray(int which)
 {
     for (uint32_t j = 0; j < VI_TRAY_KEPT; j++)

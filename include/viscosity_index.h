@@ -140,7 +140,8 @@
 #define VI_SAMPLE_PAIR_U 0u    /* u */
 #define VI_SAMPLE_PAIR_Y 1u    /* y */
 
-/* The summary of a tray: seven numbers of 64 bits with sign, at these places. With no sample held all seven are 0. */
+/* The summary of a tray: seven numbers of 64 bits with sign, at these places. With no sample held, or where a tray that somebody else wrote counts none,
+   all seven are 0. */
 #define VI_SUMMARY_SIZE 7u    /* numbers, not bytes */
 #define VI_SUMMARY_HELD 0u    /* how many samples are held; 0 says that the tray is empty */
 #define VI_SUMMARY_LOWEST 1u  /* the lowest index */
@@ -206,10 +207,10 @@ uint32_t vi_tray_take(uint32_t *tray, size_t tray_count, uint32_t number, uint32
  * The row is what the tray keeps: the call reads the last nine numbers and no place, and costs the same with 1 sample held as with 64. If these calls
  * alone wrote the tray, from zeros on, that is the summary of the samples held, after each put and take.
  * If somebody else wrote any of its numbers, puts and takes still go by the places alone and answer as always, and a summary still answers what is
- * kept, which may be another than that of the samples. A put adds its sample to what is kept, and a take takes its own off, where a count that is 0
- * stays 0. But a take of a sample at or beyond the lowest or the highest index kept finds the summary anew from the places, and so does any put or take
- * where what is kept has an index below -4,294,967,297 or above 4,294,967,296, a sum below -281,474,976,710,657 or above 281,474,976,710,656, or a count
- * above 65,536. Where what is kept is the summary of the samples, it stays so.
+ * kept, which may be another than that of the samples. Where what is kept is the summary of the samples, it stays so. Otherwise a put adds its sample to
+ * what is kept, and a take takes its own off, where a count that is 0 stays 0. But a take finds the summary anew from the places where the three counts
+ * are 0, and where the index of its sample is at or beyond the lowest or the highest kept; and so does any put or take where what is kept has an index
+ * below -4,294,967,297 or above 4,294,967,296, a sum below -281,474,976,710,657 or above 281,474,976,710,656, or a count above 65,536.
  */
 uint32_t vi_tray_summary(const uint32_t *tray, size_t tray_count, int64_t *row, size_t row_count);
 

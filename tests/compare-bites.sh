@@ -3,8 +3,8 @@
 # the real one by tests/compare/wrong.c, wrong_constants.c, wrong_trays.c,
 # wrong_numbers.c and wrong_kept.c, must be noticed. The real one must pass the
 # same short run, and so must four that choose otherwise where document 01 or
-# the constant's request leaves the choice free. Then every last digit of the table and of the two formulas, one
-# more and one less.
+# the constant's request leaves the choice free. Then every last digit of the
+# table and of the two formulas, one more and one less.
 set -euo pipefail
 . "$(dirname "$0")/compare/common.sh"
 have_headers

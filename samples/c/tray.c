@@ -40,7 +40,7 @@ static void take(uint32_t *tray, uint32_t number)
         printf("refused %u\n", (unsigned)answer);
 }
 
-/* As the refresh of a screen: the tray keeps its summary, so the call costs the same with 1 sample held as with 64. */
+/* What a screen asks for at each refresh: the tray keeps its summary, so the call costs the same with 1 sample held as with 64. */
 static void print_summary(const uint32_t *tray)
 {
     int64_t row[VI_SUMMARY_SIZE];

@@ -421,13 +421,13 @@ static int64_t kept_64(const uint32_t *at)
 /* the nine numbers that a tray with these places keeps; those of a foreign tray as the call left them */
 static void keep(const uint32_t *left)
 {
-    uint32_t *kept = held + VI_TRAY_KEPT;
+    uint32_t *nine = held + VI_TRAY_KEPT;
     int64_t lowest = INT64_MAX, highest = INT64_MIN, sum = 0;
     if (foreign) {
-        memcpy(kept, left + VI_TRAY_KEPT, VI_KEPT_SIZE * sizeof *kept);
+        memcpy(nine, left + VI_TRAY_KEPT, VI_KEPT_SIZE * sizeof *nine);
         return;
     }
-    memset(kept, 0, VI_KEPT_SIZE * sizeof *kept);
+    memset(nine, 0, VI_KEPT_SIZE * sizeof *nine);
     for (size_t i = 0; i < VI_TRAY_PLACES; i++) {
         const uint32_t *place = held + VI_PLACE_SIZE * i, method = place[VI_PLACE_METHOD];
         const int64_t index = (int32_t)place[VI_PLACE_INDEX];
@@ -436,10 +436,10 @@ static void keep(const uint32_t *left)
         lowest = index < lowest ? index : lowest;
         highest = index > highest ? index : highest;
         sum += index;
-        kept[method == VI_METHOD_A ? VI_KEPT_A : method == VI_METHOD_B_SETTLED ? VI_KEPT_SETTLED : VI_KEPT_NEAR]++;
-        keep_64(kept + VI_KEPT_LOWEST, lowest);
-        keep_64(kept + VI_KEPT_HIGHEST, highest);
-        keep_64(kept + VI_KEPT_SUM, sum);
+        nine[method == VI_METHOD_A ? VI_KEPT_A : method == VI_METHOD_B_SETTLED ? VI_KEPT_SETTLED : VI_KEPT_NEAR]++;
+        keep_64(nine + VI_KEPT_LOWEST, lowest);
+        keep_64(nine + VI_KEPT_HIGHEST, highest);
+        keep_64(nine + VI_KEPT_SUM, sum);
     }
 }
 
@@ -717,12 +717,12 @@ static void tray_sizes(void)
 /* a summary of any numbers: what is kept, whatever the places hold */
 static void kept_is_answered(void)
 {
-    const uint32_t *kept = held + VI_TRAY_KEPT;
-    const int64_t by_a = kept[VI_KEPT_A], settled = kept[VI_KEPT_SETTLED], near_half = kept[VI_KEPT_NEAR], count = by_a + settled + near_half;
+    const uint32_t *nine = held + VI_TRAY_KEPT;
+    const int64_t by_a = nine[VI_KEPT_A], settled = nine[VI_KEPT_SETTLED], near_half = nine[VI_KEPT_NEAR], count = by_a + settled + near_half;
     if (count == 0)
         summary_is(0, 0, 0, 0, 0, 0, 0);
     else
-        summary_is(count, kept_64(kept + VI_KEPT_LOWEST), kept_64(kept + VI_KEPT_HIGHEST), kept_64(kept + VI_KEPT_SUM), by_a, settled, near_half);
+        summary_is(count, kept_64(nine + VI_KEPT_LOWEST), kept_64(nine + VI_KEPT_HIGHEST), kept_64(nine + VI_KEPT_SUM), by_a, settled, near_half);
 }
 
 /* the numbers in `held` are any: each call answers, and changes what the header says */

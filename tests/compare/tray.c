@@ -179,7 +179,8 @@ void keep_wide(uint32_t *numbers, int at, int64_t value)
     numbers[at + 1] = (uint32_t)((uint64_t)value / (UINT64_C(1) << 32));
 }
 
-/* "Where the three counts are 0, no sample is held, whatever the other six are" */
+/* "Where the three counts are 0, it is the summary of no sample, whatever the other
+   six are" */
 struct summary kept_summary(const uint32_t *numbers)
 {
     struct summary s = { .a = numbers[KEPT_A], .settled = numbers[KEPT_SETTLED], .near = numbers[KEPT_NEAR] };

@@ -103,8 +103,9 @@ static void two_oils(int one, int other)
         take(&t, (uint32_t)i);
 }
 
-/* Between the lowest and the highest, of which there is one each, 62 come and leave
-   while the sum needs more than 32 bits; then the lowest leaves, and the highest. */
+/* Between the lowest and the highest, of which there is one each, 62 come and 61 of
+   them leave, at first while the sum needs more than 32 bits; then the lowest leaves,
+   the highest, and the last. */
 static void low_between(void)
 {
     static struct tested t;

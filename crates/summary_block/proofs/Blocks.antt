@@ -39,6 +39,10 @@ length_block : (t : Summary) → length (block_of t) ≡ block_length
 unfolding block_of numbers_of
 length_block t = by_test (is_of_none t) (λ e. rw e) (λ e. rw e)
 
+none_stored : (t : Summary) → is_of_none t ≡ true → block_of t ≡ block_of_none
+unfolding block_of
+none_stored t e = rw e
+
 pub none_is_nothing : (block : List ℕ) → is_of_none (summary_from block) ≡ true → summary_from block ≡ nothing
 unfolding summary_from
 none_is_nothing block h = by_test (is_of_none (fields_from block)) (read_none block refl) (λ e. both_ways (rw e at h) e)
@@ -47,4 +51,4 @@ counts_none : (block : List ℕ) → get_or block 6 0 ≡ 0 → get_or block 7 0
 counts_none block a b c = read_none block refl (rw (a, b, c))
 
 pub every_block : EveryBlock
-every_block = record { nine = length_block; back = block_back; zeros = none_kept; none = counts_none }
+every_block = record { nine = length_block; back = block_back; zeros = none_kept; none_stored = none_stored; none = counts_none }

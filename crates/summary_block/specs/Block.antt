@@ -81,5 +81,7 @@ pub record EveryBlock : Type 0 where
   pub back : (t : Summary) → Within most t → (is_of_none t ≡ true → t ≡ nothing) → summary_from (block_of t) ≡ t
   -- zeros are the summary of none
   pub zeros : summary_from (replicate 9 0) ≡ nothing
+  -- a summary of none is stored as nine zeros, whatever its other numbers are
+  pub none_stored : (t : Summary) → is_of_none t ≡ true → block_of t ≡ replicate 9 0
   -- whatever stands in the other six, nine numbers that count none say none
   pub none : (block : List ℕ) → get_or block 6 0 ≡ 0 → get_or block 7 0 ≡ 0 → get_or block 8 0 ≡ 0 → summary_from block ≡ nothing

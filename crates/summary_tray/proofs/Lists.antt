@@ -6,7 +6,7 @@ use mathlib.Core.List.{List, [], ◌∷◌, ◌++◌, map}
 use mathlib.Core.Logic.{inl, inr}
 use native.Mathlib.Omega.{arith}
 use borrow.Author.Tests.{eq-eqb, ne_eqb}
-use lib.ListN.{length, get_or, replicate, length-replicate, get_or-replicate, get_or-eq_default, replicate-append-replicate}
+use lib.ListN.{length, get_or, drop, replicate, length-replicate, get_or-replicate, get_or-eq_default, replicate-append-replicate}
 use lib.Seq.{take_at, drop_at}
 use lib.IntN.{ℤ}
 use lib.Signed.{◌≤ℤ◌}
@@ -19,10 +19,10 @@ use Rattle.index.specs.Questions.{refusal}
 use Rattle.index.specs.ChosenAnswer.{answer_of}
 use Rattle.index_summary.specs.declared.Summary.{Summary}
 use Rattle.index_summary.specs.Summary as answers
-use Rattle.index_summary.specs.Summary.{nothing, joined_of, All, SummaryOf}
+use Rattle.index_summary.specs.Summary.{nothing, joined_of, is_between, without_of, All, SummaryOf}
 use Rattle.index_summary.specs.Preconditions.{is_within}
 use Rattle.index_summary.proofs.OneLess.{lowest_kept, highest_kept}
-use Rattle.summary_block.specs.Block.{summary_from}
+use Rattle.summary_block.specs.Block.{block_of, summary_from}
 use Rattle.summary_block.proofs.Blocks.{every_block}
 use Rattle.tray_places.specs.declared.samples.Sample.{Sample}
 use Rattle.tray_places.specs.Places as layout
@@ -42,7 +42,7 @@ use Rattle.tray.proofs.EveryList.{length_times, every_list, every_call}
 use Rattle.tray.proofs.Steps.{call_step}
 use Rattle.tray.proofs.Walk.{StateOf, state_right, held_right}
 use Rattle.tray.proofs.OneMore.{Small, put_walked}
-use Rattle.summary_tray.specs.SummaryTray.{places_size, tray_size, empty_tray, places_in, kept_in, state_of, walk_of, put_answer, tray_after_put, take_answer, tray_after_take}
+use Rattle.summary_tray.specs.SummaryTray.{places_size, tray_size, empty_tray, places_in, kept_in, state_of, walk_of, with_one, without_one, put_answer, tray_after_put, take_answer, tray_after_take}
 use Rattle.summary_tray.specs.Calls.{call_refusal, after, after_all, call_answer, answers_to}
 use Rattle.summary_tray.specs.KeptSummary.{left, SameExtremes, KeptSummary, NoAnswerMoved, AnyMemory, OtherMemory, Zeros}
 use Rattle.summary_tray.proofs.Parts.{length_places, front_small, put_unchanged, take_unchanged, put_5, take_5}
@@ -168,6 +168,27 @@ put_too_large l n u y h f large (Err r) e z = absurd (omega (arith, refusal_some
 put_too_large l n u y h f large (Ok i) e z =
     in_keeps l n u y h f e (too_large_walked (kept_in l) (answer_of u y) (places.tray_after_put (places_in l) n u y) large).0
 
+-- the kept numbers after a call that is answered are those of the summary that is kept then
+put_kept : (l : List ℕ) (n u y : ℕ) {i : Index} → length l ≡ tray_size → put_answer l n u y ≡ Ok i
+    → drop 512 (tray_after_put l n u y) ≡ block_of (with_one (kept_in l) (Ok i) (places.tray_after_put (places_in l) n u y))
+unfolding tray_after_put
+put_kept l n u y h e =
+    rw e (drop_at (places.tray_after_put (places_in l) n u y) _ places_size (call_step (places_in l) (Put n u y) (length_places l h)).size)
+
+take_kept : (l : List ℕ) (n : ℕ) {s : Sample} → length l ≡ tray_size → take_answer l n ≡ Ok s
+    → drop 512 (tray_after_take l n) ≡ block_of (without_one (kept_in l) s.answer (places.tray_after_take (places_in l) n))
+unfolding tray_after_take
+take_kept l n h e =
+    rw e (drop_at (places.tray_after_take (places_in l) n) _ places_size (call_step (places_in l) (Take n) (length_places l h)).size)
+
+joined_kept : (kept : Summary) (a : Answer) (p : List ℕ) → is_within kept ≡ true → with_one kept a p ≡ joined_of kept a
+unfolding with_one
+joined_kept kept a p h = rw h
+
+without_kept : (kept : Summary) (a : Answer) (p : List ℕ) → is_within kept ≡ true → is_between kept a ≡ true → without_one kept a p ≡ without_of kept a
+unfolding without_one
+without_kept kept a p h b = rw (h, b)
+
 pub any_memory : (tray : List ℕ) (lent : length tray ≡ 521) → AnyMemory tray lent
 any_memory l h = record {
   put = put_as l h;
@@ -175,6 +196,8 @@ any_memory l h = record {
   samples = λ c. samples_after l c h;
   unchanged = refused_left l;
   from_kept_alone = λ other size e. kept_state other size ∙ ap (λ (block : List ℕ). Ok (walk.state_with (summary_from block))) e ∙ sym (kept_state l h);
+  added = λ w n u y {index} e. put_kept l n u y h e ∙ ap block_of (joined_kept (kept_in l) (Ok index) (places.tray_after_put (places_in l) n u y) w);
+  taken_off = λ w n {s} e b. take_kept l n h e ∙ ap block_of (without_kept (kept_in l) s.answer (places.tray_after_take (places_in l) n) w b);
   stays_right = λ f e c. keeps_equal (after l c) (call_keeps l c (equal_keeps l h (numbers_small l h f) e));
   right_again = λ f n {s} o e.
       keeps_equal (after l (Take n))

@@ -1,12 +1,14 @@
 -- Change request #105, of lists of calls: "Over every list of calls from an empty tray, after each put and take they equal what a walk over the held samples would
 -- give, also when the lowest leaves while another sample has the same index; with none held the tray still says so." What holds after every list of calls, and of
 -- each call on any memory, whoever wrote it. The walk that the kept summary is compared with is #102's (tray, State.antt: `state_of`).
-use Rattle.std.specs.Prelude.{ℕ, ◌<◌, ◌≡◌, false, List, [], length, get_or, drop, Option, Some, None, Result, Ok, Err}
+use Rattle.std.specs.Prelude.{ℕ, ◌<◌, ◌≡◌, true, false, List, [], length, get_or, drop, Option, Some, None, Result, Ok, Err}
+use Rattle.index.specs.declared.answer.Index.{Index}
 use Rattle.index.specs.Answer.{index_of}
 use Rattle.index_summary.specs.declared.Summary.{Summary}
 use Rattle.index_summary.specs.Summary as answers
-use Rattle.index_summary.specs.Summary.{is_between}
+use Rattle.index_summary.specs.Summary.{joined_of, is_between, without_of}
 use Rattle.index_summary.specs.Preconditions.{is_within}
+use Rattle.summary_block.specs.Block.{block_of}
 use Rattle.tray_places.specs.declared.samples.Sample.{Sample}
 use Rattle.tray_places.specs.Places as layout
 use Rattle.tray_places.specs.Places.{held_in}
@@ -70,6 +72,11 @@ pub record AnyMemory (tray : List ℕ) (lent : length tray ≡ 521) : Type 0 whe
   pub unchanged : (call : Call) → 0 < call_refusal tray call → after tray call ≡ tray
   -- "a refresh answers from them alone": with the same kept numbers, whatever the samples are, it answers the same
   pub from_kept_alone : (other : List ℕ) → length other ≡ 521 → drop 512 other ≡ drop 512 tray → state_of other ≡ state_of tray
+  -- a put adds its answer to what is kept, and a take takes one off that is between the lowest and the highest, where one answer more may be added
+  pub added : is_within (kept_in tray) ≡ true → (number u y : ℕ) {index : Index} → put_answer tray number u y ≡ Ok index
+      → drop 512 (after tray (Put number u y)) ≡ block_of (joined_of (kept_in tray) (Ok index))
+  pub taken_off : is_within (kept_in tray) ≡ true → (number : ℕ) {s : Sample} → take_answer tray number ≡ Ok s → is_between (kept_in tray) s.answer ≡ true
+      → drop 512 (after tray (Take number)) ≡ block_of (without_of (kept_in tray) s.answer)
   -- a summary that is the samples' own stays so
   pub stays_right : ((j : ℕ) → get_or tray j 0 < 4294967296) → state_of tray ≡ walked tray → (call : Call) → state_of (after tray call) ≡ walked (after tray call)
   -- and one that is not becomes so when a sample leaves whose index is not above the kept lowest and below the kept highest

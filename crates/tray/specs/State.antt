@@ -1,9 +1,9 @@
 -- Change request #102: "Asked, it gives the lowest and highest index, the sum of indices and the count for each of A, B settled and B near; an empty tray says
 -- so."
 use Rattle.index.specs.Answer.{Answer}
-use Rattle.std.specs.Prelude.{ℕ, ◌+◌, ◌≡◌, cond, ◌&&◌, List, [], ◌∷◌, map, eqb, length, Option, Some, None, Result, Ok, Err}
+use Rattle.std.specs.Prelude.{ℕ, ◌+◌, ◌≡◌, cond, List, [], ◌∷◌, map, length, Option, Some, None, Result, Ok, Err}
 use Rattle.index_summary.specs.declared.Summary.{Summary}
-use Rattle.index_summary.specs.Summary.{alone_of, joined_of, nothing, SummaryOf}
+use Rattle.index_summary.specs.Summary.{alone_of, joined_of, nothing, is_of_none, SummaryOf}
 use Rattle.tray_places.specs.declared.samples.Sample.{Sample}
 use Rattle.tray_places.specs.Places.{is_held, sample_at, held_in}
 use Rattle.tray.specs.declared.refusal.Refusal.{Refusal}
@@ -50,4 +50,4 @@ with_place tray i t = cond (is_held tray i) (joined_of t (sample_at tray i).answ
 
 -- the state with a summary: none where nothing is counted
 unfoldable pub state_with : Summary → Option Summary
-state_with t = cond (eqb t.a 0 && (eqb t.settled 0 && eqb t.near 0)) None (Some t)
+state_with t = cond (is_of_none t) None (Some t)

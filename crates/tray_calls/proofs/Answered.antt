@@ -125,6 +125,8 @@ module _ (tray lent pair : List ℕ) (row : List ℤ) (t : length tray ≡ 521) 
         sym (taken_done n).0 ∙ ap refused_by (take_as tray t n ∙ (every_call q size).not_held n z);
     taken_out = out_taken;
     asked = sym asked_done.0 ∙ state_0;
+    kept_none = λ e. sym asked_done.1 ∙ ap (row_with row) e;
+    kept_some = λ {t} e. sym asked_done.1 ∙ ap (row_with row) e;
     row_right = λ kept p. subst (RightRow tray) asked_done.1 (right_row (state_of tray) (kept_right tray kept) p);
     as_put = λ n u y. sym (put_done tray lent n u y (put_answer tray n u y) h refl refl refl refl).1.0;
     as_taken = λ n. sym (taken_done n).1.0;

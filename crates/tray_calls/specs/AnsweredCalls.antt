@@ -1,6 +1,6 @@
 -- Change requests #102 and #105 of the calls in C whose lent memories have their sizes: which number each answers, what it fills in, and which samples are held
 -- afterwards. Numbers, places in a row and fields are written out here, so that a slip in TrayCalls.antt is refuted.
-use Rattle.std.specs.Prelude.{ℕ, ◌+◌, ◌<◌, ◌≡◌, Bool, List, [], ◌∷◌, ℤ, pos, length}
+use Rattle.std.specs.Prelude.{ℕ, ◌+◌, ◌<◌, ◌≡◌, Bool, List, [], ◌∷◌, ℤ, pos, length, Some, None, Ok}
 use Rattle.index.specs.Questions.{refusal}
 use Rattle.index.specs.ChosenAnswer.{answer_of}
 use Rattle.answer_record.specs.Record.{record_of, RecordOfPair}
@@ -54,8 +54,12 @@ pub record AnsweredCalls (tray lent pair : List ℕ) (row : List ℤ)
   -- "33 number not held, on taking out"
   pub not_held : (number : ℕ) → held_as (places_in tray) number ≡ 0 → take_number tray pair lent number ≡ 33
   pub taken_out : (number : ℕ) → 0 < held_as (places_in tray) number → TakenOut tray pair lent number
-  -- asking is never refused, and gives what the tray holds, where it keeps that
+  -- asking is never refused, and gives what the tray keeps, whoever wrote it: zeros where it keeps the summary of none
   pub asked : summary_number tray row ≡ 0
+  pub kept_none : state_of tray ≡ Ok None → summary_after tray row ≡ pos 0 ∷ pos 0 ∷ pos 0 ∷ pos 0 ∷ pos 0 ∷ pos 0 ∷ pos 0 ∷ []
+  pub kept_some : {t : Summary} → state_of tray ≡ Ok (Some t)
+      → summary_after tray row ≡ pos (t.a + t.settled + t.near) ∷ t.lowest ∷ t.highest ∷ t.sum ∷ pos t.a ∷ pos t.settled ∷ pos t.near ∷ []
+  -- which is what it holds, where it keeps that
   pub row_right : state_of tray ≡ walked tray → 0 < length (samples_in tray) → RightRow tray (summary_after tray row)
   -- the tray afterwards is that of the tray's own calls, so that what holds over every list of them (tray, EveryListOfCalls.antt; summary_tray, KeptSummary.antt)
   -- holds in C

@@ -1,6 +1,6 @@
--- Change request #102: "A tray holds up to 64 samples". A tray is the list of its numbers: 64 places of eight, and of a place the first number is 0 where
--- it is free. Memory of zeros is the empty tray. The request says nothing of places: this layout is the program's choice, and `EveryTray`, at the end, says what
--- holds of it.
+-- Change request #102: "A tray holds up to 64 samples". A tray is here the list of its numbers: 64 places of eight, behind which a tray of C has nine more since #105
+-- (crate summary_tray), and of a place the first number is 0 where it is free. Memory of zeros is the empty tray. The request says nothing of places: this layout is the
+-- program's choice, and `EveryTray`, at the end, says what holds of it.
 use Rattle.std.specs.Prelude.{ℕ, zero, suc, ◌+◌, ◌*◌, ◌≤◌, ◌<◌, ◌≡◌, Bool, true, false, cond, not, ◌&&◌, List, [], ◌∷◌, ◌++◌, eqb, ltb, length, get_or, replicate, Option, Some, None}
 use Rattle.std.specs.Simd.{first_chunks}
 use Rattle.index.specs.Questions.{refusal}
@@ -10,7 +10,7 @@ use Rattle.tray_places.specs.declared.samples.Sample.{Sample}
 use Rattle.tray_places.specs.declared.samples.Place.{Place}
 use Rattle.tray_places.specs.Samples.{place_of, sample_of}
 
--- how many places a tray has, how many numbers a place, and how many numbers the tray
+-- how many places a tray has, how many numbers a place, and how many numbers the places
 abbrev pub places : ℕ
 places = 64
 

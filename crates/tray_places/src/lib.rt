@@ -11,7 +11,7 @@ ghost use Rattle.tray_places.specs.Places.{place_size, numbers_of, freed, places
 
 pub use samples::{Place, Sample};
 
-// How many places a tray has, how many numbers a place, and how many numbers the tray.
+// How many places a tray has, how many numbers a place, and how many numbers the places.
 pub const PLACES: usize = 64;
 
 pub const PLACE_SIZE: usize = 8;
