@@ -53,8 +53,8 @@ static struct pair pair_of(uint32_t u, uint32_t y)
 
 /* ---- procedure A ---- */
 
-/* The nearest whole number k to x = 100 (L - U)/(L - H), a half to the greater,
-   is the one with k - 1/2 <= x < k + 1/2. */
+/* The nearest whole number k to x = 100 (L - U)/(L - H), exactly a half to the
+   even number, is the one with k - 1/2 <= x <= k + 1/2, or < at both if k is odd. */
 static const char *audit_a(const struct pair *o, int32_t index, uint32_t p, uint32_t P)
 {
     mpz_t d, x, low, high;
@@ -64,7 +64,8 @@ static const char *audit_a(const struct pair *o, int32_t index, uint32_t p, uint
     mpz_mul_si(x, x, 200);
     mpz_mul_si(low, d, 2 * (long)index - 1);
     mpz_mul_si(high, d, 2 * (long)index + 1);
-    bool right = mpz_cmp(low, x) <= 0 && mpz_cmp(x, high) < 0;
+    int from_low = mpz_cmp(x, low), from_high = mpz_cmp(x, high);
+    bool right = from_low >= 0 && from_high <= 0 && (index % 2 == 0 || (from_low > 0 && from_high < 0));
     mpz_clears(d, x, low, high, NULL);
     if (!right)
         return "the index is not procedure A's";

@@ -96,7 +96,7 @@
 
 /* The methods. L and H are the viscosities at 40 °C of the standard's two reference oils that have this y; U is u in their units. */
 #define VI_METHOD_REFUSED 0u   /* the pair is refused by the question of its number */
-#define VI_METHOD_A 1u         /* u at or above H: the index is 100 (L - U) / (L - H) to the nearest, a half to the greater */
+#define VI_METHOD_A 1u         /* u at or above H: the index is 100 (L - U) / (L - H) to the nearest, exactly a half to the even number */
 #define VI_METHOD_B_SETTLED 2u /* u below H: the standard's exact value is from k - 0.5 to k + 0.5, k the index */
 #define VI_METHOD_B_NEAR 3u    /* u below H: it is from k - 0.51 to k - 0.49, too close to a half to say more */
 
@@ -109,7 +109,8 @@
    VI_PLACE_SIZE * i. All zeros is the empty tray. Any numbers are some tray. A tray may be stored and loaded again, or lent from other memory at each
    call.
    Before change request #105 a tray had 512 numbers, the places alone: compile what calls with a tray again. A tray of that size gets VI_TRAY_NOT_LENT. Do
-   not lengthen a stored one with zeros: it would say that no sample is held. Put its samples into a new tray. */
+   not lengthen a stored one with zeros: it would say that no sample is held. Put its samples into a new tray.
+   Before change request #106 exactly a half by A went to the greater number. A sample keeps the index that it was put in with. */
 #define VI_TRAY_SIZE 521u  /* numbers of 32 bits, not bytes: 2,084 bytes */
 #define VI_TRAY_PLACES 64u /* a sample each */
 #define VI_TRAY_KEPT 512u  /* where the kept summary begins */

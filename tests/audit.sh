@@ -1,6 +1,6 @@
 #!/usr/bin/env bash
 # Works a sheet by the library and audits it: two records by B, one settled and
-# one near, by whole powers; the whole of a full sheet in quick mode; and records
+# one near, by whole powers, and three by A that are exactly a half; the whole of a full sheet in quick mode; and records
 # changed by hand, each of which the audit must refuse. On 10,000 records at the
 # edge of what is right it must give the verdict of the comparison's own code.
 #
@@ -28,10 +28,10 @@ if [ $# -eq 2 ]; then
 fi
 [ $# -eq 0 ] || die "usage: tests/audit.sh [u y], whole numbers of thousandths of a mm²/s, 28489 for 28.489"
 
-# ---- two records by whole powers ----
+# ---- two records by whole powers, three exactly a half ----
 
 small=$work/small.sheet
-printf '%s\n' '73300 8860' '22830 5050' '20000 1999' '144936 16776' | "$work/make_sheet" >"$small" ||
+printf '%s\n' '73300 8860' '22830 5050' '20000 1999' '144936 16776' '7986 2000' '8034 2000' '7970 2000' | "$work/make_sheet" >"$small" ||
     die "the small sheet is refused"
 first=21                        # make_sheet puts the result block here
 byte() { od -An -tu1 -N1 -j "$2" "$1" | tr -d ' '; }
@@ -39,7 +39,7 @@ word() { od -An -tu4 -N4 -j "$2" "$1" | tr -d ' '; }
 at() { echo $((first + 16 * $1 + $2)); }
 [ "$(byte "$small" "$(at 1 1)")" = 2 ] || die "22.830 5.050 is not settled"
 [ "$(byte "$small" "$(at 3 1)")" = 3 ] || die "144.936 16.776 is not near"
-"$work/audit" --record 1 --record 3 "$small" || die "the audit refuses a record"
+"$work/audit" --record 1 --record 3 --record 4 --record 5 --record 6 "$small" || die "the audit refuses a record"
 
 # ---- a full sheet, quick ----
 
@@ -118,6 +118,11 @@ for i in 1 3; do
 done
 refuses 0 "index + 1" 4 93 4
 refuses 0 "method B" 1 2 1
+refuses 4 "0.5 to the greater number" 4 1 4
+refuses 4 "0.5 beyond both numbers beside it" 4 4294967295 4
+refuses 5 "−2.5 by its size, to −3" 4 4294967293 4
+refuses 5 "−2.5 to −1" 4 4294967295 4
+refuses 6 "1.5 to the smaller number" 4 1 4
 refuses 0 "p not zero" 8 1 4
 refuses 2 "answered" 0 0 1
 refuses 2 "another number" 0 2 1
@@ -125,4 +130,4 @@ refuses 2 "an index" 4 100 4
 mode=                           # whole powers have to refuse as well
 refuses 3 "p = P + 1, by whole powers" 8 $((P + 1)) 4
 
-echo "audit: passed: 2 records by whole powers, a sheet of 2,000 in quick mode, $judged at the edge judged as by oil.c, $changes changed records refused"
+echo "audit: passed: 2 records by whole powers and 3 that are exactly a half, a sheet of 2,000 in quick mode, $judged at the edge judged as by oil.c, $changes changed records refused"

@@ -45,7 +45,7 @@ redirected() { bash -c "$1"; }
 
 three=$'pairs 3\n73.300 8.860 A 92\n22.830 5.050 B 156\n20.000 1.999 refused 1\n'
 pairs=$'pairs 8\n20.000 1.999 refused 1\n73.300 8.860 A 92\n900.000 500.001 refused 2\n1000000.001 2.000 refused 3\n'
-pairs+=$'2.000 2.000 refused 4\n4294967.295 4294967.295 refused 2\n0.000 0.000 refused 1\n8.018 2.000 A -1\n'
+pairs+=$'2.000 2.000 refused 4\n4294967.295 4294967.295 refused 2\n0.000 0.000 refused 1\n8.018 2.000 A -2\n'
 
 # ---- the arguments
 cd "$root" || exit 1

@@ -67,14 +67,14 @@ def dec(x):
 
 
 def outcomes(u, y):
-    """The outcomes that document 01 allows for a pair: one, but two or three where an index by B lies within 0.01 of a half."""
+    """The outcomes that are right for a pair, by document 01 and change request #106: one, but two or three where an index by B lies within 0.01 of a half."""
     number = refusal(u, y)
     if number:
         return {"refused %d" % number}
     U, Y = Fraction(u, 1000), Fraction(y, 1000)
     L, H = reference(Y)
     if U >= H:
-        return {"A %d" % ((100 * (L - U) / (L - H) + Fraction(1, 2)) // 1)}
+        return {"A %d" % round(100 * (L - U) / (L - H))}  # of a Fraction, exactly a half to the even number
     N = dec(H / U).ln() / dec(Y).ln()
     index = (10**N - 1) / decimal.Decimal("0.00715") + 100
     half, hundredth = decimal.Decimal("0.5"), decimal.Decimal("0.01")
@@ -191,7 +191,7 @@ def test_sizes():
 def test_pairs():
     for results_first in (False, True):
         for gap in (0, 1, 1000):
-            oils = THREE + [(7986, 2000), (8018, 2000), (8019, 2000), (500000, 14000), (0, 0), (2001, 2000), (2000, 2000), (1000000001, 2000)]
+            oils = THREE + [(7986, 2000), (7970, 2000), (8018, 2000), (8034, 2000), (8019, 2000), (500000, 14000), (0, 0), (2001, 2000), (2000, 2000), (1000000001, 2000)]
             printed("blocks apart by %d" % gap, sheet(oils, results_first, gap), oils)
     for u, y, k in NEAR:
         out = run(sheet([(u, y)]))

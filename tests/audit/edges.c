@@ -30,9 +30,21 @@ static void put(uint8_t *b, uint32_t v)
         b[i] = (uint8_t)(v >> 8 * i);
 }
 
+/* At y 2,000 L is 7,994 and L - H 1,600 thousandths, so that every eighth u has
+   exactly a whole index or a half by A; here a half from -49.5 to 49.5. */
+static void pick_half_by_a(uint32_t *u, uint32_t *y)
+{
+    *y = Y_LEAST;
+    *u = (uint32_t)(7994 + 8 * (2 * random_in(-50, 49) + 1));
+}
+
 /* Most pairs are beside a half by B, where both marks have an edge. */
 static void pick(uint32_t *u, uint32_t *y)
 {
+    if (random_in(0, 15) == 0) {
+        pick_half_by_a(u, y);
+        return;
+    }
     *y = (uint32_t)(random_in(0, 1) ? random_in(Y_LEAST, 20000) : random_in(Y_LEAST, Y_GREATEST));
     struct oil o = oil_of(*y + 1, *y);
     long double k = (long double)random_in(100, 300), off = (long double)random_in(-2, 2) / 200.0L;
@@ -73,10 +85,8 @@ static void change(struct record *r)
         r->P = moved(power_floor(near ? k - 49 : k + 50));
         break;
     case 6:
-        r->index += (int32_t)random_in(-1, 1);
-        break;
     case 8:
-        r->index += random_in(0, 3) == 0;
+        r->index += (int32_t)random_in(-1, 1);
         break;
     default:
         break;

@@ -93,10 +93,12 @@ static __int128 floor_div(__int128 a, __int128 b)
 
 int64_t index_a(const struct oil *o)
 {
-    /* floor(x + 1/2) of x = 100 (L - U)/(L - H) sends a half to the greater. */
+    /* floor(x + 1/2) of x = 100 (L - U)/(L - H). Where x is just a half, that is the
+       greater of the two whole numbers beside it: if it is odd, the even one is one less. */
     __int128 d = (__int128)o->L - o->H;
     __int128 n = 200 * ((__int128)o->L - o->U) + d;
-    return (int64_t)floor_div(n, 2 * d);
+    int64_t k = (int64_t)floor_div(n, 2 * d);
+    return n % (2 * d) == 0 && k % 2 != 0 ? k - 1 : k;
 }
 
 /* ---- procedure B: Q*N against a whole number ---- */

@@ -48,7 +48,7 @@ void basis(const struct row *rows, uint32_t y, int64_t *l, int64_t *h);
 struct oil oil_of(uint32_t u, uint32_t y);
 bool below_h(const struct oil *o);
 
-/* Procedure A: the index, a half to the greater. */
+/* Procedure A: the index, exactly a half to the even number. */
 int64_t index_a(const struct oil *o);
 
 /* Procedure B in long double: Q*N, and the index as the standard writes it. */

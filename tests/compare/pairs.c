@@ -231,18 +231,20 @@ static void edges_of_the_questions(void)
     }
 }
 
-/* The pairs that document 01 names, held to the numbers that it prints. */
+/* The pairs that document 01 and request #106 name, held to the numbers that
+   they print; (8034, 2000) is exactly -2.5, the request's slip. */
 static void printed_pairs(void)
 {
     static const struct { uint32_t u, y; int method, index; } printed[] = {
         { 73300, 8860, BY_A, 92 }, { 22830, 5050, B_SETTLED, 156 }, { 53470, 7080, BY_A, 87 },
         { 53470, 7800, B_SETTLED, 111 }, { 28490, 5000, BY_A, 100 }, { 28489, 5000, B_SETTLED, 100 },
-        { 7986, 2000, BY_A, 1 }, { 8018, 2000, BY_A, -1 }, { 1000000000, 2000, BY_A, -62499500 },
+        { 7986, 2000, BY_A, 0 }, { 8018, 2000, BY_A, -2 }, { 7970, 2000, BY_A, 2 },
+        { 8034, 2000, BY_A, -2 }, { 1000000000, 2000, BY_A, -62499500 },
         { 6188000, 100000, BY_A, 50 } };
     for (size_t i = 0; i < sizeof printed / sizeof *printed; i++) {
         struct record r = check_counted(printed[i].u, printed[i].y);
         if (r.method != printed[i].method || r.index != printed[i].index)
-            fail("an answer that document 01 prints", NULL);
+            fail("an answer that document 01 or request #106 prints", NULL);
     }
 }
 

@@ -326,9 +326,9 @@ static void printed_samples(void)
     put(&l.t, 0, 22830, 5050);    /* 156 by B */
     put(&l.t, 255, 53470, 7080);  /* 87 by A */
     put(&l.t, 128, 28489, 5000);  /* 100 by B */
-    put(&l.t, 8, 8018, 2000);     /* -1 by A */
+    put(&l.t, 8, 8018, 2000);     /* -2 by A */
     summary(&l.t);
-    static const int64_t by_hand[SUMMARY_ROW] = { 5, -1, 156, 434, 3, 2, 0 };
+    static const int64_t by_hand[SUMMARY_ROW] = { 5, -2, 156, 433, 3, 2, 0 };
     if (memcmp(last_row(), by_hand, sizeof by_hand) != 0)
         fail("the summary of five samples, worked by hand", NULL);
 }

@@ -13,11 +13,11 @@ uint32_t __wrap_vi_pair(uint32_t u, uint32_t y, uint8_t *record, size_t length);
 uint32_t __wrap_vi_sheet(uint8_t *sheet, size_t length);
 
 enum {
-    ROW_L = 1, ROW_H, HALF_DOWN, HALF_BY_SIZE, SWAPPED, ALL_NEAR, BLOCK_AS_FOUND, HUNDRED_TO_ALL,
+    ROW_L = 1, ROW_H, HALF_DOWN, NEGATIVE_HALF_BY_SIZE, SWAPPED, ALL_NEAR, BLOCK_AS_FOUND, HUNDRED_TO_ALL,
     FIRST_COPIED, INVENTED, REFUSES_ALL, QUADRATIC_AT_70, ROUNDED_H, SPARE_BYTE, ORDER_OF_QUESTIONS,
     LENGTH_NOT_ASKED, REFUSED_SHEET_CHANGED, PAIR_STOPS_SHEET, BYTE_BESIDE_BLOCK, UNSORTED_P, B_AT_H,
-    P_TOO_SMALL, P_TOO_GREAT, BLOCKS_TOUCH, COUNT_2001, EVEN_HALF,
-    SINGLE_B, FIVE_DIGITS_B, ROW_TOO_LOW, SPACING_KEPT
+    P_TOO_SMALL, P_TOO_GREAT, BLOCKS_TOUCH, COUNT_2001, HALF_TO_THE_GREATER,
+    HALF_TO_THE_ODD, EVEN_ABOVE_ZERO_ONLY, EVEN_OFF_THE_HALF, SINGLE_B, FIVE_DIGITS_B, ROW_TOO_LOW, SPACING_KEPT
 };
 
 static uint32_t get(const uint8_t *b)
@@ -33,11 +33,35 @@ static uint32_t put_record(struct record r, uint8_t *record)
     return r.number;
 }
 
-/* Is the exact index by A a half? */
-static bool is_half(const struct oil *o)
+/* An index by A that is just a half, or less than a thousandth off it, as one of
+   these faults rounds it; above is the whole number above the half. */
+static int32_t wrong_half(int32_t above, int32_t right)
+{
+    switch (WRONG) {
+    case HALF_TO_THE_GREATER:
+        return above;
+    case HALF_DOWN:
+        return above - 1;
+    case NEGATIVE_HALF_BY_SIZE:
+        return above <= 0 ? above - 1 : right;
+    case EVEN_ABOVE_ZERO_ONLY:
+        return above <= 0 ? above : right;
+    case HALF_TO_THE_ODD:
+        return above % 2 != 0 ? above : above - 1;
+    case EVEN_OFF_THE_HALF:
+        return above % 2 == 0 ? above : above - 1;
+    default:
+        return right;
+    }
+}
+
+static int32_t with_wrong_half(int32_t right, const struct oil *o)
 {
     __int128 d = (__int128)o->L - o->H, n = 200 * ((__int128)o->L - o->U) + d;
-    return n % (2 * d) == 0;
+    __int128 left = ((n % (2 * d)) + 2 * d) % (2 * d), off = left < d ? left : 2 * d - left;
+    if (WRONG == EVEN_OFF_THE_HALF ? off == 0 || 500 * off >= d : off != 0)
+        return right;
+    return wrong_half((int32_t)((n - left + (left < d ? 0 : 2 * d)) / (2 * d)), right);
 }
 
 /* Our own answer with one row of the table changed by one digit. */
@@ -100,14 +124,13 @@ static void spoil(struct record *r, const struct oil *o)
 {
     bool a = r->method == BY_A, b = !a;
     switch (WRONG) {
+    case HALF_TO_THE_GREATER:
     case HALF_DOWN:
-        r->index -= a && is_half(o);
-        break;
-    case HALF_BY_SIZE:
-        r->index -= a && r->index <= 0 && is_half(o);
-        break;
-    case EVEN_HALF:
-        r->index -= a && r->index % 2 != 0 && is_half(o);
+    case NEGATIVE_HALF_BY_SIZE:
+    case EVEN_ABOVE_ZERO_ONLY:
+    case HALF_TO_THE_ODD:
+    case EVEN_OFF_THE_HALF:
+        r->index = a ? with_wrong_half(r->index, o) : r->index;
         break;
     case SWAPPED: {
         uint32_t p = r->p;

@@ -29,7 +29,7 @@ static inline bool next_case(FILE *file, struct hard_case *c, bool *bad)
 }
 
 /* The right index of an oil whose index is close to below + 1/2. The half
-   itself goes to the greater by A; by B none of the cases is a half. */
+   itself goes to the even number by A; by B none of the cases is a half. */
 static inline int64_t right_index(const struct oil *o, int64_t below)
 {
     if (!below_h(o))

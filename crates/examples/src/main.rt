@@ -1,6 +1,6 @@
-// All pairs and sheets of document 01's 'Pairs and sheets to try', and constants of change request #101 on both sides of each limit and at values worked
-// by hand, and a tray of change requests #102, #104 and #105 from empty to full, through the public operations: each line names an example and what the document
-// says of it, and ends in "ok" where the operation answers just that, in "WRONG" where it does not.
+// All pairs and sheets of document 01's 'Pairs and sheets to try', with exactly a half as change request #106 has it, constants of change request #101 on both
+// sides of each limit and at values worked by hand, and a tray of change requests #102, #104 and #105 from empty to full, through the public operations: each
+// line names an example and what the document says of it, and ends in "ok" where the operation answers just that, in "WRONG" where it does not.
 #![tactic(auto)]
 
 mod trays;
@@ -128,16 +128,6 @@ fn answered_pairs(rt: &impl Print) -> io::Result<()> {
     )?;
     told(
         rt,
-        "(7986, 2000): A 1",
-        answer_pair(7_986, 2_000) == Ok(Index::A(1)),
-    )?;
-    told(
-        rt,
-        "(8018, 2000): A -1",
-        answer_pair(8_018, 2_000) == Ok(Index::A(-1)),
-    )?;
-    told(
-        rt,
         "(1000000000, 2000): A -62499500",
         answer_pair(1_000_000_000, 2_000) == Ok(Index::A(-62_499_500)),
     )?;
@@ -145,6 +135,31 @@ fn answered_pairs(rt: &impl Print) -> io::Result<()> {
         rt,
         "(6188000, 100000): A 50",
         answer_pair(6_188_000, 100_000) == Ok(Index::A(50)),
+    )?;
+    Ok(())
+}
+
+// By A with an exact index of 0.5, 1.5, -1.5 and -2.5: exactly a half goes to the even number, on both sides of zero.
+fn exact_halves(rt: &impl Print) -> io::Result<()> {
+    told(
+        rt,
+        "(7986, 2000), exactly 0.5: A 0",
+        answer_pair(7_986, 2_000) == Ok(Index::A(0)),
+    )?;
+    told(
+        rt,
+        "(7970, 2000), exactly 1.5: A 2",
+        answer_pair(7_970, 2_000) == Ok(Index::A(2)),
+    )?;
+    told(
+        rt,
+        "(8018, 2000), exactly -1.5: A -2",
+        answer_pair(8_018, 2_000) == Ok(Index::A(-2)),
+    )?;
+    told(
+        rt,
+        "(8034, 2000), exactly -2.5: A -2",
+        answer_pair(8_034, 2_000) == Ok(Index::A(-2)),
     )?;
     Ok(())
 }
@@ -302,6 +317,7 @@ fn refused_constants(rt: &impl Print) -> io::Result<()> {
 fn main(rt: HostRuntime) -> io::Result<()> {
     l_and_h(&rt)?;
     answered_pairs(&rt)?;
+    exact_halves(&rt)?;
     refused_pairs(&rt)?;
     sheets(&rt)?;
     constants_at_40(&rt)?;

@@ -50,13 +50,21 @@ at_h : (a : Answer) → RightAnswer 28490 5000 a → a ≡ Ok (A (pos 100))
 unfolding index_a rounded_a l_at h_at at_place entry table1
 at_h = only_a 28490 5000 (pos 100) refl (lit≤ tt) refl
 
-half : (a : Answer) → RightAnswer 7986 2000 a → a ≡ Ok (A (pos 1))
+half : (a : Answer) → RightAnswer 7986 2000 a → a ≡ Ok (A (pos 0))
 unfolding index_a rounded_a l_at h_at at_place entry table1
-half = only_a 7986 2000 (pos 1) refl (lit≤ tt) refl
+half = only_a 7986 2000 (pos 0) refl (lit≤ tt) refl
 
-negative_half : (a : Answer) → RightAnswer 8018 2000 a → a ≡ Ok (A (negsuc 0))
+negative_half : (a : Answer) → RightAnswer 8018 2000 a → a ≡ Ok (A (negsuc 1))
 unfolding index_a rounded_a l_at h_at at_place entry table1
-negative_half = only_a 8018 2000 (negsuc 0) refl (lit≤ tt) refl
+negative_half = only_a 8018 2000 (negsuc 1) refl (lit≤ tt) refl
+
+one_and_a_half : (a : Answer) → RightAnswer 7970 2000 a → a ≡ Ok (A (pos 2))
+unfolding index_a rounded_a l_at h_at at_place entry table1
+one_and_a_half = only_a 7970 2000 (pos 2) refl (lit≤ tt) refl
+
+minus_two_and_a_half : (a : Answer) → RightAnswer 8034 2000 a → a ≡ Ok (A (negsuc 1))
+unfolding index_a rounded_a l_at h_at at_place entry table1
+minus_two_and_a_half = only_a 8034 2000 (negsuc 1) refl (lit≤ tt) refl
 
 thickest : (a : Answer) → RightAnswer 1000000000 2000 a → a ≡ Ok (A (negsuc 62499499))
 unfolding index_a rounded_a l_at h_at at_place entry table1
@@ -210,6 +218,8 @@ forced_answers =
       at_h = at_h;
       half = half;
       negative_half = negative_half;
+      one_and_a_half = one_and_a_half;
+      minus_two_and_a_half = minus_two_and_a_half;
       thickest = thickest;
       by_b =
           by_mark (λ (a : Answer). Forced156 (method_of a) (index_of a) (lower_of a) (upper_of a)) 22830 5050 refl (omega (arith, numbers_156.h_is))

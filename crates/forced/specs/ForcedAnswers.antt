@@ -31,9 +31,12 @@ pub record ForcedAnswers : Type 0 where
   pub by_a : (a : Answer) → RightAnswer 73300 8860 a → a ≡ Ok (A (pos 92))
   -- "(28490, 5000): A 100." U is H
   pub at_h : (a : Answer) → RightAnswer 28490 5000 a → a ≡ Ok (A (pos 100))
-  -- "(7986, 2000): exactly 0.5, A 1." and "(8018, 2000): −1.5, A −1."
-  pub half : (a : Answer) → RightAnswer 7986 2000 a → a ≡ Ok (A (pos 1))
-  pub negative_half : (a : Answer) → RightAnswer 8018 2000 a → a ≡ Ok (A (negsuc 0))
+  -- "(7986, 2000) becomes 0 and (8018, 2000) becomes −2; (7970, 2000), exactly 1.5, is still 2" (#106); and (8034, 2000), exactly −2.5, is −2, where its slip on
+  -- a negative half is −3
+  pub half : (a : Answer) → RightAnswer 7986 2000 a → a ≡ Ok (A (pos 0))
+  pub negative_half : (a : Answer) → RightAnswer 8018 2000 a → a ≡ Ok (A (negsuc 1))
+  pub one_and_a_half : (a : Answer) → RightAnswer 7970 2000 a → a ≡ Ok (A (pos 2))
+  pub minus_two_and_a_half : (a : Answer) → RightAnswer 8034 2000 a → a ≡ Ok (A (negsuc 1))
   -- "(1000000000, 2000): A −62,499,500."
   pub thickest : (a : Answer) → RightAnswer 1000000000 2000 a → a ≡ Ok (A (negsuc 62499499))
   -- "22.830 5.050 B 156"

@@ -74,7 +74,7 @@ never_rises u v y h e f =
     (λ a m u_is. absurd (omega arith)))
     (λ b l v-is. by_answer u y (λ r k. not_some (number_of_refusal r) (sym k.number ∙ e) k.some)
     (λ a m u_is. indices v-is u_is (order_joins (index_most y v b.least b.most l) (pos_le least_index (answer_by_b u y).index (by_b_right u y a m).least)))
-    (λ a m u_is. indices v-is u_is (index_falls y u v h)))
+    (λ a m u_is. indices v-is u_is (index_falls y u v b.least b.most h)))
   where
     indices : {x z : Answer} → answer_of v y ≡ x → answer_of u y ≡ z → index_of x ≤ℤ index_of z → index_of (answer_of v y) ≤ℤ index_of (answer_of u y)
     indices d g o = subst₂ (λ (x z : Answer). index_of x ≤ℤ index_of z) (sym d) (sym g) o
@@ -96,7 +96,9 @@ module _ (u v y : ℕ) (e : refusal u y ≡ 0) (f : refusal v y ≡ 0) (l : u < 
   right_falls (Err n) b r s i j = not_some (number_of_refusal n) (r.number ∙ e) r.case
   right_falls (Ok (A x)) (Err n) r s i j = not_some (number_of_refusal n) (s.number ∙ f) s.case
   right_falls (Ok (B b)) (Err n) r s i j = not_some (number_of_refusal n) (s.number ∙ f) s.case
-  right_falls (Ok (A x)) (Ok (A z)) r s i j = rw (r.case.1, s.case.1) (index_falls y u v (omega arith))
+  right_falls (Ok (A x)) (Ok (A z)) r s i j =
+      let q = passes v y f in
+      rw (r.case.1, s.case.1) (index_falls y u v q.least q.most (omega arith))
   right_falls (Ok (A x)) (Ok (B d)) r s i j =
       let above : h_at y ≤ in_units u = r.case.0 in
       let below : in_units v < h_at y = s.case.below in

@@ -1,7 +1,7 @@
 -- The index of procedure A as the nearest whole number of one difference, and of the one that the code computes; at one y it never rises with u, and at
 -- or above H it is at most 100 and fits 32 bits.
 use Prim.Native.Nat.{ℕ, ◌*◌, ◌-◌, ◌<◌, ◌≤◌}
-use mathlib.Core.Path.{◌≡◌, ◌∙◌, ap}
+use mathlib.Core.Path.{◌≡◌, refl, ◌∙◌, ap}
 use lib.IntN.{ℤ, pos, sub_ℕ, ◌-ℤ◌, ◌*ℤ◌}
 use lib.Signed.{◌≤ℤ◌, mag}
 use native.Mathlib.Omega.{arith}
@@ -33,6 +33,7 @@ pub quotient_fits : (l h u : ℕ) → FractionFits l h u → QuotientFits 100 (1
 quotient_fits l h u f =
     record {
       some = omega (arith, f.apart);
+      even_w = refl;
       small_w = omega arith;
       small_x = omega (arith, f.most_u);
       small_d = omega (arith, f.l_at_most);
@@ -41,11 +42,12 @@ quotient_fits l h u f =
 
 -- ---- of a pair
 
-pub index_falls : (y u v : ℕ) → u ≤ v → index_a v y ≤ℤ index_a u y
+pub index_falls : (y u v : ℕ) → least100 ≤ y → y ≤ greatest100 → u ≤ v → index_a v y ≤ℤ index_a u y
 unfolding index_a
-index_falls y u v le =
+index_falls y u v low high le =
+    let b = bounds y low high in
     rw (rounded (l_at y) (h_at y) (in_units u), rounded (l_at y) (h_at y) (in_units v))
-    (nearest_falls (100 * l_at y) (100 * in_units u) (100 * in_units v) (l_at y - h_at y) (omega arith))
+    (nearest_falls (100 * l_at y) (100 * in_units u) (100 * in_units v) (l_at y - h_at y) (omega (arith, b.apart)) (omega arith))
 
 pub index_most : (y u : ℕ) → least100 ≤ y → y ≤ greatest100 → h_at y ≤ in_units u → index_a u y ≤ℤ pos 100
 unfolding index_a

@@ -19,12 +19,18 @@ pub record StarredExamples : Type 0 where
   -- "(28490, 5000): A 100." U is H
   pub at_h : in_units 28490 ≡ h_at 5000
   pub a_100 : answer_of 28490 5000 ≡ Ok (A (pos 100))
-  -- "(7986, 2000): exactly 0.5, A 1." 100·(L − U) is half of L − H
+  -- "(7986, 2000): exactly 0.5", which "becomes 0" (#106). 100·(L − U) is half of L − H
   pub half_exact : 200 * (l_at 2000 - in_units 7986) ≡ l_at 2000 - h_at 2000
-  pub half : answer_of 7986 2000 ≡ Ok (A (pos 1))
-  -- "(8018, 2000): −1.5, A −1." 100·(U − L) is three halves of L − H
+  pub half : answer_of 7986 2000 ≡ Ok (A (pos 0))
+  -- "(8018, 2000): −1.5", which "becomes −2" (#106). 100·(U − L) is three halves of L − H
   pub negative_half_exact : 200 * (in_units 8018 - l_at 2000) ≡ 3 * (l_at 2000 - h_at 2000)
-  pub negative_half : answer_of 8018 2000 ≡ Ok (A (negsuc 0))
+  pub negative_half : answer_of 8018 2000 ≡ Ok (A (negsuc 1))
+  -- "(7970, 2000), exactly 1.5, is still 2" (#106)
+  pub one_and_a_half_exact : 200 * (l_at 2000 - in_units 7970) ≡ 3 * (l_at 2000 - h_at 2000)
+  pub one_and_a_half : answer_of 7970 2000 ≡ Ok (A (pos 2))
+  -- the slip on a negative half "now reads −3 for −2.5" (#106): (8034, 2000) is exactly −2.5, and −2
+  pub minus_two_and_a_half_exact : 200 * (in_units 8034 - l_at 2000) ≡ 5 * (l_at 2000 - h_at 2000)
+  pub minus_two_and_a_half : answer_of 8034 2000 ≡ Ok (A (negsuc 1))
   -- "(1000000000, 2000): A −62,499,500."
   pub thickest : answer_of 1000000000 2000 ≡ Ok (A (negsuc 62499499))
   -- "(6188000, 100000): A 50." It is exactly 50: L − U is half of L − H

@@ -1,5 +1,6 @@
--- Document 01, 'Procedure A, u at or above H': "Index = 100·(L − U)/(L − H), with U = u·10^7, rounded to the nearest whole number; exactly a
--- half goes to the greater. It may be negative." How a quotient is rounded stands in crate rounding (`nearest`).
+-- Document 01, 'Procedure A, u at or above H': "Index = 100·(L − U)/(L − H), with U = u·10^7, rounded to the nearest whole number .. It may be
+-- negative." Exactly a half, which went to the greater there, goes to the even number since change request #106. How a quotient is rounded stands in crate
+-- rounding (`nearest`).
 use Rattle.std.specs.Prelude.{ℕ, ◌-◌, ℤ, pos, ◌-ℤ◌, ◌*ℤ◌}
 use Rattle.reference.specs.Viscosity.{in_units}
 use Rattle.reference.specs.Basis.{l_at, h_at}

@@ -1,3 +1,3 @@
--- The laws of rounding: what rounding down means, and the quotient that the code computes.
-pub mod Floor
+-- The laws of rounding: what the nearest whole number is, and the quotient that the code computes.
+pub mod HalfToEven
 pub mod Quotient
