@@ -10,4 +10,5 @@ pub mod OilNumerators
 pub mod Right
 pub mod Fits
 pub mod Order
+pub mod NearestIndex
 pub mod Examples

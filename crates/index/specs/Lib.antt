@@ -8,6 +8,7 @@ pub mod ChosenAnswer
 pub mod ChosenFractions
 pub mod Preconditions
 pub mod Examples
+pub mod NearestIndex
 pub mod Consistent
 pub mod Determined
 pub mod Order
