@@ -46,6 +46,7 @@ redirected() { bash -c "$1"; }
 three=$'pairs 3\n73.300 8.860 A 92\n22.830 5.050 B 156\n20.000 1.999 refused 1\n'
 pairs=$'pairs 8\n20.000 1.999 refused 1\n73.300 8.860 A 92\n900.000 500.001 refused 2\n1000000.001 2.000 refused 3\n'
 pairs+=$'2.000 2.000 refused 4\n4294967.295 4294967.295 refused 2\n0.000 0.000 refused 1\n8.018 2.000 A -2\n'
+halves=$'pairs 4\n7.986 2.000 A 0\n7.970 2.000 A 2\n8.018 2.000 A -2\n8.034 2.000 A -2\n'
 
 # ---- the arguments
 cd "$root" || exit 1
@@ -67,6 +68,7 @@ done
 expect "three pairs" 0 "$three" - ./print samples/three.sheet
 expect "refused pairs" 0 "$pairs" - ./print samples/refused-pairs.sheet
 expect "results first" 0 "$pairs" - ./print samples/results-first.sheet
+expect "exact halves" 0 "$halves" - ./print samples/halves.sheet
 expect "a refused sheet" 0 $'sheet refused 12\n' - ./print samples/refused.sheet
 expect "an empty sheet" 0 $'pairs 0\n' - ./print samples/empty.sheet
 expect "standard input" 0 "$three" - redirected 'cat samples/three.sheet | ./print -'

@@ -50,7 +50,7 @@ holds "the longest input is written" cmp -s "$work/longest" <(target/bin/vi_work
 says "vi_work, input that is too long" '^not worked: the input is longer than 65,536 bytes' "target/bin/vi_work <'$work/too-long'"
 
 # A worked sheet is as long as before, stays as it is when it is worked again, and has the text of the sheet; its results were not there before.
-for sheet in three planner refused-pairs results-first empty; do
+for sheet in three planner refused-pairs results-first halves empty; do
     target/bin/vi_work <"samples/$sheet.sheet" >"$work/worked"
     holds "$sheet, as long as before" test "$(wc -c <"$work/worked")" -eq "$(wc -c <"samples/$sheet.sheet")"
     holds "$sheet, worked again" cmp -s "$work/worked" <(target/bin/vi_work <"$work/worked")
