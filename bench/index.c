@@ -4,7 +4,7 @@
    index run WHAT OILS TIMES    one of them alone, for an instruction count: WHAT is plain, printed, sheet, pair or interval;
                                 OILS is below, above or mix
 
-   plain     doubles and libm as a firmware author would write it, log(H/U) / log(Y); no certificate
+   plain     doubles and libm as a firmware author would write it, log(H/U) / log(Y) and nearbyint, which takes a half to the even number; no certificate
    printed   the same with formula 7 as printed, (log H - log U) / log Y
    interval  MPFR enclosures with p, P and mark, in rising precision */
 #include <math.h>
@@ -50,9 +50,9 @@ static int plain_index(uint32_t u, uint32_t y, int printed)
         return 0;
     plain_l_and_h(Y, &l, &h);
     if (U >= h)
-        return (int)floor(100 * (l - U) / (l - h) + 0.5);
+        return (int)nearbyint(100 * (l - U) / (l - h));
     double n = printed ? (log(h) - log(U)) / log(Y) : log(h / U) / log(Y);
-    return (int)floor((pow(10, n) - 1) / 0.00715 + 100 + 0.5);
+    return (int)nearbyint((pow(10, n) - 1) / 0.00715 + 100);
 }
 
 /* ---- MPFR: p and P enclose Q*N, and two enclosed logarithms of c decide the mark */
