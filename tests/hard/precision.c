@@ -4,7 +4,8 @@
 
    Each arithmetic does what firmware would: y and u turned into mm2/s, L and H
    interpolated or taken from the quadratics in that arithmetic, U < H asked in
-   it, formulas 3, 6 and 7 of the standard as printed, and floor(x + 0.5). The
+   it, formulas 3, 6 and 7 of the standard as printed, and then either
+   floor(x + 0.5) or nearbyint(x), which takes a half to the even number. The
    right index is exact (oil.c). No pair here is exactly a half by B. */
 #include "cases.h"
 
@@ -63,16 +64,28 @@ static const struct { const char *name; double (*index)(uint32_t, uint32_t); } a
     { "5-digit logs and N", index_log5n5 },
 };
 
+static double floor_of_half_more(double x)
+{
+    return floor(x + 0.5);
+}
+
+enum { ROUNDINGS = 2 };
+static const struct { const char *name; double (*round)(double); } roundings[ROUNDINGS] = {
+    { "wrong index with floor(x + 0.5)", floor_of_half_more },
+    { "wrong index with nearbyint(x)", nearbyint },
+};
+
 /* ---- the counts ---- */
 
-struct line { uint64_t cases, wrong[ARITHMETICS]; double worst[ARITHMETICS]; };
+struct line { uint64_t cases, wrong[ROUNDINGS][ARITHMETICS]; double worst[ARITHMETICS]; };
 
 static void add(struct line *line, uint32_t u, uint32_t y, int64_t right, double exact)
 {
     line->cases++;
     for (int i = 0; i < ARITHMETICS; i++) {
         double x = arithmetics[i].index(u, y);
-        line->wrong[i] += floor(x + 0.5) != (double)right;
+        for (int j = 0; j < ROUNDINGS; j++)
+            line->wrong[j][i] += roundings[j].round(x) != (double)right;
         double off = fabs(x - exact);
         line->worst[i] = off > line->worst[i] ? off : line->worst[i];
     }
@@ -85,16 +98,12 @@ static void print_share(uint64_t wrong, uint64_t cases)
     printf(" %s |", wrong == 0 ? "never on these" : text);
 }
 
-/* The second table is printed after the first, so its lines are kept. */
+/* A table of each rounding, then one of the errors: the lines are kept for them. */
 static struct { const char *name; struct line line; } kept[32];
 static int kept_count;
 
-static void print_line(const char *name, const struct line *line)
+static void keep_line(const char *name, const struct line *line)
 {
-    printf("| %s | %" PRIu64 " |", name, line->cases);
-    for (int i = 0; i < ARITHMETICS; i++)
-        print_share(line->wrong[i], line->cases);
-    printf("\n");
     kept[kept_count].name = name;
     kept[kept_count++].line = *line;
 }
@@ -105,6 +114,18 @@ static void print_head(const char *what)
     for (int i = 0; i < ARITHMETICS; i++)
         printf(" %s |", arithmetics[i].name);
     printf("\n|---|---|---|---|---|---|\n");
+}
+
+static void print_wrong(int rounding)
+{
+    print_head(roundings[rounding].name);
+    for (int j = 0; j < kept_count; j++) {
+        printf("| %s | %" PRIu64 " |", kept[j].name, kept[j].line.cases);
+        for (int i = 0; i < ARITHMETICS; i++)
+            print_share(kept[j].line.wrong[rounding][i], kept[j].line.cases);
+        printf("\n");
+    }
+    printf("\n");
 }
 
 static void print_worst(void)
@@ -145,7 +166,7 @@ static void hard_line(const char *path, const char *kind, const char *name)
         exit(1);
     }
     fclose(file);
-    print_line(name, &line);
+    keep_line(name, &line);
 }
 
 /* ---- random oils ---- */
@@ -193,7 +214,7 @@ static void random_line(uint64_t cases, double from, double to, double low, doub
         o = oil_of(u, y);
         add(&line, u, y, right_of_any(&o), exact_index(&o));
     }
-    print_line(name, &line);
+    keep_line(name, &line);
 }
 
 /* Every pair by B with y from `from` to `to`: the least y have the highest
@@ -209,7 +230,7 @@ static void every_line(uint32_t from, uint32_t to, const char *name)
                 break;
             add(&line, u, y, right_of_any(&o), exact_index(&o));
         }
-    print_line(name, &line);
+    keep_line(name, &line);
 }
 
 int main(int argc, char **argv)
@@ -219,7 +240,6 @@ int main(int argc, char **argv)
         return 2;
     }
     uint64_t cases = argc > 2 ? strtoull(argv[2], NULL, 10) : 1000000;
-    print_head("wrong index");
     hard_line(argv[1], "A-half", "A, exact halves");
     hard_line(argv[1], "A-table", "A, closest, y to 70");
     hard_line(argv[1], "A-all", "A, closest, any y");
@@ -232,7 +252,8 @@ int main(int argc, char **argv)
     random_line(cases, 70000, 500000, 0, 100, 1, "random, y 70 to 500, index 0 to 100");
     random_line(cases, 70000, 500000, 100, 400, 1, "random, y 70 to 500, index 100 to 400");
     every_line(2000, 2200, "every pair by B with y 2 to 2.2 (index to 6593)");
-    printf("\n");
+    for (int j = 0; j < ROUNDINGS; j++)
+        print_wrong(j);
     print_worst();
     return 0;
 }
