@@ -1,6 +1,6 @@
 -- A quotient to the nearest whole number as the code computes it: the quotient rounded down and one more or not, and a difference over d as an even number less
 -- a rounded quotient; that the latter fits 32 bits, never rises with what is subtracted, and is at most k where the quotient is.
-use Prim.Native.Nat.{ℕ, ◌+◌, ◌*◌, ◌/◌, ◌%◌, ◌<◌, ◌≤◌}
+use Prim.Native.Nat.{ℕ, ◌+◌, ◌*◌, ◌%◌, ◌<◌, ◌≤◌}
 use mathlib.Core.Path.{◌≡◌, sym}
 use borrow.Author.Tests.{lt-ltb, le-ltb}
 use lib.Dec.{ltb}
@@ -12,23 +12,23 @@ use native.Mathlib.Omega.{arith}
 use Rattle.laws.specs.Bits.{half32}
 use Rattle.laws.proofs.Difference.{sub_le, sub_falls, sub_times, pos_is, difference_fits}
 use Rattle.laws.proofs.Order.{by_order}
-use Rattle.rounding.specs.Nearest.{nearest_whole, nearest}
+use Rattle.rounding.specs.Nearest.{nearer, nearest_whole, nearest}
 use Rattle.rounding.specs.HalfToEven.{HalfToEven}
 use Rattle.rounding.specs.Preconditions.{QuotientFits}
 use Rattle.rounding.proofs.HalfToEven.{WithinHalf, from_within_half, whole_within_half, nearest_is, nearest_only, half_to_even_rises, every_quotient}
 
--- one more where what is left, twice, and 1 beside an odd quotient come to more than d
-pub one_more : (x d : ℕ) → x / d + from_bool (ltb d (2 * (x % d) + x / d % 2)) ≡ nearest_whole x d
-one_more x d =
-    by_order (2 * (x % d)) d
-    (λ l. rw (lt-ltb (2 * (x % d)) d l, le-ltb d (2 * (x % d) + x / d % 2) (omega arith)) (omega arith))
-    (λ l. rw (le-ltb (2 * (x % d)) d l)
-    (by_order d (2 * (x % d))
-    (λ m. rw (lt-ltb d (2 * (x % d)) m, lt-ltb d (2 * (x % d) + x / d % 2) (omega arith)) (omega arith))
-    (λ m. rw (le-ltb d (2 * (x % d)) m)
-    (by_order (x / d % 2) 1
-    (λ n. rw (le-ltb d (2 * (x % d) + x / d % 2) (omega arith)) (omega arith))
-    (λ n. rw (lt-ltb d (2 * (x % d) + x / d % 2) (omega arith)) (omega arith))))))
+-- q and r / d more: one more where r, twice, and 1 beside an odd q come to more than d
+pub one_more : (q r d : ℕ) → q + from_bool (ltb d (2 * r + q % 2)) ≡ nearer q r d
+one_more q r d =
+    by_order (2 * r) d
+    (λ l. rw (lt-ltb (2 * r) d l, le-ltb d (2 * r + q % 2) (omega arith)) (omega arith))
+    (λ l. rw (le-ltb (2 * r) d l)
+    (by_order d (2 * r)
+    (λ m. rw (lt-ltb d (2 * r) m, lt-ltb d (2 * r + q % 2) (omega arith)) (omega arith))
+    (λ m. rw (le-ltb d (2 * r) m)
+    (by_order (q % 2) 1
+    (λ n. rw (le-ltb d (2 * r + q % 2) (omega arith)) (omega arith))
+    (λ n. rw (lt-ltb d (2 * r + q % 2) (omega arith)) (omega arith))))))
 
 -- w is even, and so is w less the number that a half goes to
 less_within_half : (w x q d : ℕ) → w % 2 ≡ 0 → WithinHalf x 0 q 0 d → WithinHalf (w * d) x w q d

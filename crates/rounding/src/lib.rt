@@ -9,7 +9,7 @@ ghost use Rattle.rounding.specs.Preconditions.{QuotientFits, quarter64};
 use laws::signed_difference;
 
 // x / d to the nearest whole number, exactly a half to the even one: x / d rounded down, and one more where what is left is more than a half of d, or a
-// half of it beside an odd quotient.
+// half of it and that number odd.
 #[tactic(auto, using(crate::proofs::Quotient::one_more))]
 fn nearest_whole(x: u64, d: u64) -> u64
     requires { (0 < d) × (x ≤ quarter64) × (d ≤ quarter64) }
