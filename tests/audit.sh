@@ -1,8 +1,9 @@
 #!/usr/bin/env bash
 # Works a sheet by the library and audits it: two records by B, one settled and
-# one near, by whole powers, and three by A that are exactly a half; the whole of a full sheet in quick mode; and records
-# changed by hand, each of which the audit must refuse. On 10,000 records at the
-# edge of what is right it must give the verdict of the comparison's own code.
+# one near, by whole powers, and three by A that are exactly a half; the whole of
+# a full sheet in quick mode; and records changed by hand, each of which the audit
+# must refuse. On 10,000 records at the edge of what is right it must give the
+# verdict of the comparison's own code.
 #
 # The near one, u 144936 y 16776, has an exact index so close to 124.5 that no p
 # and P settle it. Both were chosen because H/U has small terms: (22830, 5050),

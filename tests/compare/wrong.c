@@ -55,6 +55,8 @@ static int32_t wrong_half(int32_t above, int32_t right)
     }
 }
 
+/* The exact index and a half more is n / 2d, and off / 2d how far the index is from
+   the nearest half. */
 static int32_t with_wrong_half(int32_t right, const struct oil *o)
 {
     __int128 d = (__int128)o->L - o->H, n = 200 * ((__int128)o->L - o->U) + d;
