@@ -18,10 +18,11 @@ use Rattle.index.specs.declared.questions.Viscosities.{Viscosities}
 use Rattle.index.specs.declared.answer.Index.TheVariants.{A, B}
 use Rattle.index.specs.Questions.{refusal, asked_of}
 use Rattle.index.specs.ProcedureA.{rounded_a, index_a}
-use Rattle.index.specs.ChosenFractions.{answer_by_b}
+use Rattle.index.specs.ChosenFractions.{by_b_of, answer_by_b}
 use Rattle.index.specs.ChosenAnswer.{index_passed, answer_of}
 use Rattle.index.specs.Preconditions.{Passes, FractionFits, OilBelowH}
 use Rattle.index.proofs.ProcedureA.{pair_fits}
+use Rattle.index.proofs.OilLogarithms.{pair_below}
 use Rattle.index.proofs.QuestionOrder.{by_questions, none_refuses, number_most, refused_1, refused_2, refused_3, refused_4}
 
 -- ---- the answer
@@ -71,10 +72,10 @@ by_answer u y refused below above =
 
 module _ (u y h units : ℕ) (passes : Passes u y) (h_is : h ≡ h_at y) (units-are : units ≡ in_units u) where
   pub oil_below : units < h → OilBelowH (record { u = u; y = y; h = h })
-  oil_below l = record { passes = passes; h_is = h_is; below = omega (arith, l, units-are) }
+  oil_below l = rw h_is (pair_below u y passes (omega (arith, l, units-are, h_is)))
 
-  pub index_below : units < h → B (answer_by_b u y) ≡ index_passed u y
-  index_below l = sym (index_b_is u y (omega (arith, l, units-are, h_is)))
+  pub index_below : units < h → B (by_b_of (record { u = u; y = y; h = h })) ≡ index_passed u y
+  index_below l = rw h_is (sym (index_b_is u y (omega (arith, l, units-are, h_is))))
 
   module _ (l : ℕ) (l-is : l ≡ l_at y) where
     pub fraction_fits : h ≤ units → FractionFits l h units

@@ -1,11 +1,11 @@
 -- The two numerators from the logarithms of y, U and H: p / Q is at or below N and P / Q at or above it, shown by whole powers; P is p + 1 or
--- p + 2, and p is at most 11/6 of Q.
+-- p + 2, and p is at most 11/6 of Q. Neither falls as the logarithm of H rises or those of y and U fall.
 use Prim.Native.Nat.{ℕ, ◌+◌, ◌*◌, ◌-◌, ◌^◌, ◌≤◌, ◌<◌}
 use mathlib.Core.Path.{◌≡◌, refl, sym, ap, subst}
 use native.Mathlib.Omega.{arith}
 use native.Mathlib.Nat.{mul-le-mul_left, le_of_mul-le-mul_right, div-mul-le_self, lt-div-mul-add, zero-div, pow-zero, pow-le-pow_left}
 use borrow.Author.Tests.{le-leb, lt-leb}
-use Rattle.laws.proofs.Order.{by_order}
+use Rattle.laws.proofs.Order.{by_order, quotient_le}
 use Rattle.laws.proofs.Powers.{ring}
 use Rattle.logarithm.specs.Scale.{scale, scale_number, width, log1000}
 use Rattle.logarithm.specs.Log2.{Enclosed}
@@ -61,6 +61,24 @@ upper_cases ly lU lH p f g =
     by_order ((p + 1) * (ly - (log1000 + 1))) (Q_number * (lH + width - lU))
     (λ a. g a (rw (lt-leb _ _ a) refl))
     (λ b. f b (rw (le-leb _ _ b) refl))
+
+-- ---- which way they go: neither rises as the logarithm of y or of U does, or as that of H falls
+
+module _ (ly lU lH ky kU kH : ℕ) (y : ly ≤ ky) (u : lU ≤ kU) (h : kH ≤ lH) where
+  pub lower_falls : log1000 < ly + width → lower_from ky kU kH ≤ lower_from ly lU lH
+  unfolding lower_from
+  lower_falls some = quotient_le _ _ (ly + width - log1000) (ky + width - log1000) (mul-le-mul_left Q_number (omega arith)) (omega arith) (omega arith)
+
+  pub upper_falls : (p q : ℕ) → q ≤ p → upper_from ky kU kH q ≤ upper_from ly lU lH p
+  upper_falls p q l =
+      let goal : Q_number * (kH + width - kU) ≤ Q_number * (lH + width - lU) = mul-le-mul_left Q_number (omega arith) in
+      let longer : (p + 1) * (ly - (log1000 + 1)) ≤ (p + 1) * (ky - (log1000 + 1)) = mul-le-mul_left (p + 1) (omega arith) in
+      upper_cases ly lU lH p
+      (λ a e. upper_cases ky kU kH q (λ b f. omega arith)
+      (λ b f. by_order q p (λ m. omega arith)
+      (λ m. let same : (q + 1) * (ky - (log1000 + 1)) ≡ (p + 1) * (ky - (log1000 + 1)) = ap (λ (n : ℕ). (n + 1) * (ky - (log1000 + 1))) (omega arith) in
+      absurd (omega arith))))
+      (λ a e. upper_cases ky kU kH q (λ b f. omega arith) (λ b f. omega arith))
 
 -- ---- how large they get: for the code's arithmetic
 

@@ -1,16 +1,13 @@
 -- At one y the index never rises with u: of any two right answers, neither marked near; and of the answers that are given, whatever their marks.
 use Prim.Native.Nat.{ℕ, ◌+◌, ◌*◌, ◌-◌, ◌≤◌, ◌<◌}
-use mathlib.Core.Path.{◌≡◌, refl, sym, ap, ◌∙◌, subst₂}
+use mathlib.Core.Path.{◌≡◌, refl, sym, ◌∙◌, subst₂}
 use native.Mathlib.Omega.{arith}
-use native.Mathlib.Nat.{mul-le-mul_left}
 use lib.Signed.{◌≤ℤ◌}
 use Rattle.std.specs.Prelude.{Ok, Err}
 use Rattle.laws.proofs.Contradiction.{not_some}
-use Rattle.laws.proofs.Order.{by_order, quotient_le}
 use Rattle.reference.specs.Viscosity.{in_units}
 use Rattle.reference.specs.Basis.{h_at}
 use Rattle.reference.proofs.Bounds.{bounds}
-use Rattle.logarithm.specs.Scale.{width, log1000}
 use Rattle.logarithm.specs.Log2.{log2_of}
 use Rattle.logarithm.proofs.Rise.{log2_rises}
 use Rattle.shown_index.specs.declared.Mark.{Mark}
@@ -22,38 +19,24 @@ use Rattle.index.specs.Preconditions.{Passes}
 use Rattle.index.specs.ProcedureB.{SettledAt, Marked}
 use Rattle.index.specs.Answer.{Answer, method_of_mark, index_of, RightAnswer}
 use Rattle.index.specs.Order.{MarkedNear, InOrder}
-use Rattle.logarithm.specs.Fractions.{Q_number}
 use Rattle.shown_index.specs.Terms.{least_index}
-use Rattle.index.specs.ChosenFractions.{lower_from, upper_from, lower_of_pair, upper_of_pair, answer_by_b}
+use Rattle.index.specs.ChosenFractions.{lower_from, lower_of_oil, upper_of_oil, by_b_of, oil_of_pair, answer_by_b}
 use Rattle.index.specs.ChosenAnswer.{answer_of}
 use Rattle.laws.proofs.Difference.{pos_le, order_joins}
 use Rattle.index.proofs.QuestionOrder.{passes}
 use Rattle.index.proofs.Consistent.{consistent}
 use Rattle.index.proofs.ProcedureA.{index_falls, index_most}
 use Rattle.shown_index.proofs.Marks.{index_falls as index-of-b-falls}
-use Rattle.index.proofs.Numerators.{upper_cases}
-use Rattle.index.proofs.OilNumerators.{pair_numerators}
+use Rattle.index.proofs.Numerators.{lower_falls, upper_falls}
+use Rattle.index.proofs.OilLogarithms.{at_least_two, pair_below}
+use Rattle.index.proofs.OilNumerators.{oil_numerators}
 use Rattle.index.proofs.Cases.{by_answer}
 use Rattle.index.proofs.Right.{by_b_right}
 
--- ---- the numerators fall as the logarithm of U rises
-
-lower_falls : (ly lU lV lH : ℕ) → lU ≤ lV → lower_from ly lV lH ≤ lower_from ly lU lH
-unfolding lower_from
-lower_falls ly lU lV lH l = quotient_le _ _ (ly + width - log1000) (mul-le-mul_left Q_number (omega arith))
-
-upper_falls : (ly lU lV lH p q : ℕ) → lU ≤ lV → q ≤ p → upper_from ly lV lH q ≤ upper_from ly lU lH p
-upper_falls ly lU lV lH p q l h =
-    let goal : Q_number * (lH + width - lV) ≤ Q_number * (lH + width - lU) = mul-le-mul_left Q_number (omega arith) in
-    upper_cases ly lU lH p
-    (λ a e. upper_cases ly lV lH q (λ b f. omega arith)
-    (λ b f. by_order q p (λ m. omega arith)
-    (λ m. let same : (q + 1) * (ly - (log1000 + 1)) ≡ (p + 1) * (ly - (log1000 + 1)) = ap (λ (n : ℕ). (n + 1) * (ly - (log1000 + 1))) (omega arith) in
-    absurd (omega arith))))
-    (λ a e. upper_cases ly lV lH q (λ b f. omega arith) (λ b f. omega arith))
+-- ---- every two pairs with equal y
 
 b_falls : (u v y : ℕ) → u ≤ v → Passes u y → Passes v y → in_units v < h_at y → (answer_by_b v y).index ≤ (answer_by_b u y).index
-unfolding answer_by_b lower_of_pair upper_of_pair
+unfolding by_b_of lower_of_oil upper_of_oil
 b_falls u v y h a b below =
     let ly = log2_of y in
     let lU = log2_of (in_units u) in
@@ -61,10 +44,8 @@ b_falls u v y h a b below =
     let lH = log2_of (h_at y) in
     let fits = bounds y a.least a.most in
     let l : log2_of (in_units u) ≤ log2_of (in_units v) = log2_rises (in_units u) (in_units v) (omega (arith, a.thicker)) (omega arith) (omega (arith, fits.h_at_most)) in
-    let p : lower_from ly lV lH ≤ lower_from ly lU lH = lower_falls ly lU lV lH l in
-    index-of-b-falls _ _ _ _ (pair_numerators u y a (omega arith)).lower_fits p (upper_falls ly lU lV lH _ _ l p)
-
--- ---- every two pairs with equal y
+    let p : lower_from ly lV lH ≤ lower_from ly lU lH = lower_falls ly lU lH ly lV lH (omega arith) l (omega arith) (omega (arith, at_least_two y a.least a.most)) in
+    index-of-b-falls _ _ _ _ (oil_numerators (oil_of_pair u y) (pair_below u y a (omega arith))).lower_fits p (upper_falls ly lU lH ly lV lH (omega arith) l (omega arith) _ _ p)
 
 pub never_rises : (u v y : ℕ) → u ≤ v → refusal u y ≡ 0 → refusal v y ≡ 0 → index_of (answer_of v y) ≤ℤ index_of (answer_of u y)
 never_rises u v y h e f =

@@ -12,14 +12,14 @@ use Rattle.shown_index.specs.ChosenIndex.{chosen_index}
 use Rattle.shown_index.proofs.Marks.{right_index, numerators_kept}
 use Rattle.index.specs.ProcedureB.{Marked}
 use Rattle.index.specs.Answer.{RightB, RightAnswer}
-use Rattle.index.specs.ChosenFractions.{lower_of_pair, upper_of_pair, answer_by_b}
+use Rattle.index.specs.ChosenFractions.{lower_of_oil, upper_of_oil, by_b_of, oil_of_pair, answer_by_b}
 use Rattle.index.specs.ChosenAnswer.{answer_of}
 use Rattle.index.specs.Preconditions.{Passes}
 use Rattle.index.proofs.QuestionOrder.{none_refuses}
 use Rattle.index.proofs.Cases.{by_answer}
 use Rattle.index.proofs.Numerators.{lower_shows, upper, upper_shows}
-use Rattle.index.proofs.OilLogarithms.{logarithms}
-use Rattle.index.proofs.OilNumerators.{pair_numerators}
+use Rattle.index.proofs.OilLogarithms.{logarithms, pair_below}
+use Rattle.index.proofs.OilNumerators.{oil_numerators}
 
 -- ---- procedure B
 
@@ -33,24 +33,24 @@ module _ (u y k p P : ℕ) (lower : y ^ p * in_units u ^ Q ≤ 1000 ^ p * h_at y
 
 -- what the p and the P of a pair show of its viscosities
 lower_viscosity : (u y : ℕ) → Passes u y → in_units u < h_at y
-    → y ^ lower_of_pair u y * in_units u ^ Q ≤ 1000 ^ lower_of_pair u y * h_at y ^ Q
-unfolding lower_of_pair
-lower_viscosity u y a l = lower_shows y (in_units u) (h_at y) (log2_of y) (log2_of (in_units u)) (log2_of (h_at y)) (logarithms u y a l)
+    → y ^ lower_of_oil (oil_of_pair u y) * in_units u ^ Q ≤ 1000 ^ lower_of_oil (oil_of_pair u y) * h_at y ^ Q
+unfolding lower_of_oil
+lower_viscosity u y a l = lower_shows y (in_units u) (h_at y) (log2_of y) (log2_of (in_units u)) (log2_of (h_at y)) (logarithms (oil_of_pair u y) (pair_below u y a l))
 
 upper_viscosity : (u y : ℕ) → Passes u y → in_units u < h_at y
-    → 1000 ^ upper_of_pair u y * h_at y ^ Q ≤ y ^ upper_of_pair u y * in_units u ^ Q
-unfolding lower_of_pair upper_of_pair
+    → 1000 ^ upper_of_oil (oil_of_pair u y) * h_at y ^ Q ≤ y ^ upper_of_oil (oil_of_pair u y) * in_units u ^ Q
+unfolding lower_of_oil upper_of_oil
 upper_viscosity u y a l =
-    let o = logarithms u y a l in
+    let o = logarithms (oil_of_pair u y) (pair_below u y a l) in
     upper_shows y (in_units u) (h_at y) (log2_of y) (log2_of (in_units u)) (log2_of (h_at y)) o _
     (upper y (in_units u) (h_at y) (log2_of y) (log2_of (in_units u)) (log2_of (h_at y)) o)
 
 pub by_b_right : (u y : ℕ) → Passes u y → in_units u < h_at y → RightB u y (answer_by_b u y)
-unfolding answer_by_b
+unfolding by_b_of
 by_b_right u y a l =
-    let p = lower_of_pair u y in
-    let P = upper_of_pair u y in
-    let f = pair_numerators u y a l in
+    let p = lower_of_oil (oil_of_pair u y) in
+    let P = upper_of_oil (oil_of_pair u y) in
+    let f = oil_numerators (oil_of_pair u y) (pair_below u y a l) in
     let b = chosen_index p P in
     let r = right_index p P f.lower_fits f.next in
     let n = numerators_kept p P in

@@ -4,8 +4,8 @@
 
 pub mod answer;
 mod pair;
-mod procedure_a;
-mod procedure_b;
+pub mod procedure_a;
+pub mod procedure_b;
 mod questions;
 
 pub use answer::{Answer, Index};

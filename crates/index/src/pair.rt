@@ -13,7 +13,7 @@ use reference::{Located, ReferenceOil};
 // The index of a pair that passes the questions. Procedure B needs no L, so H comes first; both are found at one place.
 // Laid out where it is called: a sheet asks it for every pair, and an oil at or above H needs little else.
 #[inline(always)]
-#[tactic(auto, using(crate::proofs::Cases::oil_below, crate::proofs::Cases::index_below, crate::proofs::Cases::index_above))]
+#[tactic(auto, using(crate::proofs::Cases::index_below, crate::proofs::Cases::index_above))]
 fn index_passed(pair: Viscosities) -> Index
     requires { Passes pair.u pair.y }
     ensures { result ≡ index_passed pair.u pair.y }

@@ -4,13 +4,14 @@
 // (crate logarithm), give p / Q at or below N and P / Q at or above it, Q = 2^24 and P at most p + 2; which index they show is crate shown_index's
 // part.
 ghost use Rattle.std.specs.Prelude.{◌≡◌};
-ghost use Rattle.index.specs.ChosenFractions.{lower_from, upper_from, answer_by_b, FoundFractions};
+ghost use Rattle.index.specs.ChosenFractions.{lower_from, upper_from, by_b_of, FoundFractions};
 ghost use Rattle.index.specs.Preconditions.{InBounds, OilBelowH};
 
 use logarithm::{LOG_1000, Q, WIDTH};
 use shown_index::{ByB, Fractions};
 
-// An oil below H: its two viscosities in thousandths of a mm²/s, and H in units of 10^-10 mm²/s.
+// An oil below H: its two viscosities in thousandths of a mm²/s, and H in units of 10^-10 mm²/s. Of a pair, H is the one at its y; crate span asks for an H at
+// another y.
 #[derive(Clone, Copy, Debug, PartialEq, Eq)]
 pub struct Oil {
     pub u: u32,
@@ -54,10 +55,10 @@ impl Logarithms {
 }
 
 // p and P of an oil below H.
-#[tactic(auto, using(crate::proofs::OilNumerators::y_range, crate::proofs::OilNumerators::units_range, crate::proofs::OilNumerators::h_range, crate::proofs::OilNumerators::bounded))]
+#[tactic(auto, using(crate::proofs::OilLogarithms::y_range, crate::proofs::OilLogarithms::units_range, crate::proofs::OilLogarithms::h_range, crate::proofs::OilNumerators::bounded))]
 fn fractions_of(oil: Oil) -> Fractions
     requires { OilBelowH oil }
-    ensures { FoundFractions oil.u oil.y result.lower result.upper }
+    ensures { FoundFractions oil result.lower result.upper }
 {
     let logs = Logarithms {
         y: logarithm::log2_scaled(u64::from(oil.y)),
@@ -74,7 +75,7 @@ fn fractions_of(oil: Oil) -> Fractions
 #[tactic(auto, using(crate::proofs::OilNumerators::by_b_is))]
 pub fn procedure_b(oil: Oil) -> ByB
     requires { OilBelowH oil }
-    ensures { result ≡ answer_by_b oil.u oil.y }
+    ensures { result ≡ by_b_of oil }
 {
     shown_index::index_of_fractions(fractions_of(oil))
 }

@@ -1,5 +1,4 @@
--- Up to 70,000 L, H and L − H fall nowhere as y grows: the straight line through a column that falls at no row falls nowhere. It is for the
--- law that the index does not fall with y, which is not stated yet.
+-- Up to 70,000 L, H and L − H fall nowhere as y grows: the straight line through a column that falls at no row falls nowhere.
 use Prim.Native.Nat.{ℕ, ◌+◌, ◌*◌, ◌-◌, ◌<◌, ◌≤◌}
 use mathlib.Core.Path.{◌≡◌, sym, ◌∙◌, ap, ap₂}
 use mathlib.Core.Bool.{Bool}

@@ -125,7 +125,7 @@ pub enum ReferenceOil {
 }
 
 // The viscosity of the table's last row. The quadratics begin above it, and do not meet the table there.
-const LAST_ROW: u32 = 70_000;
+pub const LAST_ROW: u32 = 70_000;
 
 // The place of y: the row that is found, and the share of the way. y is a plain number here as in row.rt, which says why.
 fn locate(y: u32) -> Place
