@@ -1,20 +1,21 @@
 /*
  * The viscosity index of ASTM D2270 from an oil's kinematic viscosities at 40 °C (u) and at 100 °C (y), each a whole number of
- * thousandths of a mm²/s: for one pair, and for a sheet of up to 2,000 pairs. The viscosity-gravity constant of an oil from its density
- * and one of its viscosities. And a tray of up to 64 samples, each with a number, its pair and its answer, and the summary of a tray.
+ * thousandths of a mm²/s: for one pair, and for a sheet of up to 2,000 pairs; and its span where both are known within limits. The
+ * viscosity-gravity constant of an oil from its density and one of its viscosities. And a tray of up to 64 samples, each with a number, its pair
+ * and its answer, and the summary of a tray.
  *
  * What a caller may rely on, for any numbers and any bytes:
  * - Every function returns, and answers one of the numbers below. There is nothing to test beforehand or to free, and nothing to initialise but a
  *   new tray, to zeros.
  * - They read and write only the memory lent to them, remember nothing between calls, and may run at the same time on different memory. What a
  *   tray holds, and the summary that it keeps, stand in the memory lent for it and nowhere else.
- * - A buffer of bytes may have any alignment; a row of a constant is aligned as any array of int32_t, a tray and the pair of a sample as any array
- *   of uint32_t, a summary as any array of int64_t. The memories lent to one call must not overlap. Where a length or count is 0, nothing is read
- *   through the pointer.
+ * - A buffer of bytes may have any alignment; a row of a constant or of a span is aligned as any array of int32_t, a tray and the pair of a
+ *   sample as any array of uint32_t, a summary as any array of int64_t. The memories lent to one call must not overlap. Where a length or count
+ *   is 0, nothing is read through the pointer.
  * - The same question always gets the same answer; a pair in a record as in a sheet, and in a tray that calls have filled.
- * - A refused sheet, a record that is not 16 bytes, a row that is not 3 numbers, the row of a refused constant, and all memory lent to a refused
- *   call with a tray are left as they were. vi_pair and vi_sheet fill the record of a refused pair as any other, with the pair's number and zeros;
- *   a refused pair does not stop its sheet.
+ * - A refused sheet, a record that is not 16 bytes, a row of a constant that is not 3 numbers or of a span that is not 2, the row of a refused
+ *   constant or of refused limits, and all memory lent to a refused call with a tray are left as they were. vi_pair and vi_sheet fill the record
+ *   of a refused pair as any other, with the pair's number and zeros; a refused pair does not stop its sheet.
  *
  * Numbers in bytes are least significant first.
  */
@@ -37,6 +38,18 @@
 #define VI_U_ABOVE_MOST 3u   /* Is u at most 1,000,000,000? */
 #define VI_U_NOT_ABOVE_Y 4u  /* Is u greater than y? */
 #define VI_RECORD_NOT_16 5u  /* asked first by vi_pair: Is the record just 16 bytes? Calls with a tray have VI_TRAY_NOT_LENT. */
+
+/* The number of a span, likewise; VI_ANSWERED where every question is answered yes. After 41 and 42 come the pair's own questions: 1 of y1, 2 of y2,
+   3 of u2, and 4 of u1 against y2. */
+#define VI_SPAN_NOT_2 5u         /* asked first: Is the row just 2 numbers? */
+#define VI_LOWER_ABOVE_UPPER 41u /* Is u1 at most u2, and y1 at most y2? */
+#define VI_LIMITS_TOO_WIDE 42u   /* Is y2 - y1 at most VI_SPAN_WIDEST? */
+#define VI_SPAN_WIDEST 200u      /* 0.2 mm²/s */
+
+/* The row of a span: two numbers with sign, at these places. */
+#define VI_SPAN_SIZE 2u     /* numbers, not bytes */
+#define VI_SPAN_LEAST 0u    /* the least index over all y at u2 */
+#define VI_SPAN_GREATEST 1u /* the greatest index over all y at u1 */
 
 /* The number of a sheet, likewise. Sums are taken as whole numbers and do not wrap. */
 #define VI_ACCEPTED 0u       /* every question is answered yes */
@@ -161,6 +174,15 @@ extern "C" {
  * they are. Otherwise fills the record, all 16 bytes of it, and answers the pair's number, VI_ANSWERED or one of 1 to 4.
  */
 uint32_t vi_pair(uint32_t u, uint32_t y, uint8_t *record, size_t length);
+
+/*
+ * The span of the index where u is known from u1 to u2 and y from y1 to y2. `row` points to `count` numbers (not bytes). If count is not
+ * VI_SPAN_SIZE, answers VI_SPAN_NOT_2 and leaves them as they are. If the limits are refused, answers 41, 42 or one of 1 to 4 and leaves them too.
+ * Otherwise fills the row and answers VI_ANSWERED: the least index over all whole y from y1 to y2 at u2, and the greatest over all of them at u1.
+ * No pair inside the limits has an index below the one or above the other. Each is the index that vi_pair gives to some pair inside, but that need
+ * not be one at y1 or at y2: with u 2,201 the index is 4,805 at y 2,164 and at y 2,195, and 4,806 between.
+ */
+uint32_t vi_span(uint32_t u1, uint32_t u2, uint32_t y1, uint32_t y2, int32_t *row, size_t count);
 
 /*
  * Works a sheet of `length` bytes. Answers VI_ACCEPTED, and then the result block holds the record of each pair, in the order of the

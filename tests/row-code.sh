@@ -1,8 +1,8 @@
 #!/usr/bin/env bash
-# Change request #103: no conditional jump is left in the machine code of the place. The archive lays that code out inside vi_pair and vi_sheet. It begins
-# with the first instruction that has a constant by which crates/reference/src/row.rt counts the ranges left; from there to the first jump, call or return all
-# of it must have been done, to the share of the way. No jump may lead into it, nothing in it be chosen by a comparison, and no second place come after it.
-# Then the same is asked of edited copies.
+# Change request #103: no conditional jump is left in the machine code of the place. The archive lays that code out inside vi_pair, vi_sheet and the span's
+# index_between. It begins with the first instruction that has a constant by which crates/reference/src/row.rt counts the ranges left; from there to the
+# first jump, call or return all of it must have been done, to the share of the way. No jump may lead into it, nothing in it be chosen by a comparison, and
+# no second place come after it. Then the same is asked of edited copies.
 set -u
 cd "$(dirname "$0")/.." || exit 1
 work=$(mktemp -d)
@@ -71,7 +71,7 @@ judge() {
 
 objdump -d -M intel --no-show-raw-insn "$archive" >"$work/code"
 said=$(judge "$work/code")
-[ "$said" = "vi_pair ok"$'\n'"vi_sheet ok" ] || miss "the archive: ${said//$'\n'/; }"
+[ "$said" = "vi_pair ok"$'\n'"index_between ok"$'\n'"vi_sheet ok" ] || miss "the archive: ${said//$'\n'/; }"
 
 # bites WANTED PROGRAM: of a copy edited by this sed program within vi_sheet, judge says WANTED of it, and nothing where there is no place.
 copies=0
@@ -95,5 +95,5 @@ bites 'a jump to an unknown place' "s/\\tje .*/\\tjmp    QWORD PTR [rax*8]/"
 bites 'a second place' "s/.*imul .*,$per_millionth\$/&\\n    ffff:\\tlea    edx,[rax-$third]/"
 bites '' "s/$second\\|$third/0x0/"
 
-[ "$bad" -eq 0 ] && echo "row code: in vi_pair and in vi_sheet no jump from the first instruction of the place to the share; $copies edited copies are told"
+[ "$bad" -eq 0 ] && echo "row code: in vi_pair, in vi_sheet and in the span's index_between no jump from the first instruction of the place to the share; $copies edited copies are told"
 exit "$bad"

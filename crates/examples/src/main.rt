@@ -1,8 +1,9 @@
 // All pairs and sheets of document 01's 'Pairs and sheets to try', with exactly a half as change request #106 has it, constants of change request #101 on both
-// sides of each limit and at values worked by hand, and a tray of change requests #102, #104 and #105 from empty to full, through the public operations: each
-// line names an example and what the document says of it, and ends in "ok" where the operation answers just that, in "WRONG" where it does not.
+// sides of each limit and at values worked by hand, spans of #107, and a tray of change requests #102, #104 and #105 from empty to full, through the public
+// operations: each line names an example and what the document says of it, and ends in "ok" where the operation answers just that, in "WRONG" where it does not.
 #![tactic(auto)]
 
+mod spans;
 mod trays;
 
 ghost use Rattle.std.specs.Prelude.{◌<◌};
@@ -323,5 +324,6 @@ fn main(rt: HostRuntime) -> io::Result<()> {
     constants_at_40(&rt)?;
     constants_at_100(&rt)?;
     refused_constants(&rt)?;
+    spans::spans(&rt)?;
     trays::trays(&rt)
 }

@@ -1,10 +1,13 @@
-// What C calls: the pair and the sheet operation on numbers and bytes, the viscosity-gravity constant on numbers, and the tray on lent memories. The header
-// is include/viscosity_index.h. C reads what is answered: a refusal is its number here. And C hands over plain numbers and lent memories, each by itself.
+// What C calls: the pair and the sheet operation on numbers and bytes, the viscosity-gravity constant and the span of the index on numbers, and the tray on
+// lent memories. The header is include/viscosity_index.h. C reads what is answered: a refusal is its number here. And C hands over plain numbers and lent
+// memories, each by itself.
 #![tactic(auto)]
 
 ghost use Rattle.std.specs.Prelude.{◌≡◌};
 ghost use Rattle.gravity_constant.specs.declared.questions.Temperature.TheVariants.{At40, At100};
 ghost use Rattle.constant_row.specs.ConstantCall.{row_number, row_after, ConstantCall};
+ghost use Rattle.span_row.specs.SpanCall as span;
+ghost use Rattle.span_row.specs.SpanCall.{SpanCall};
 ghost use Rattle.sheet.specs.Sheet.{sheet_refusal, sheet_after, sheet_number_of};
 ghost use Rattle.sheet.specs.Demand3.{Demand3};
 ghost use Rattle.tray_calls.specs.TrayCalls.{put_number, tray_put, record_put, take_number, tray_taken, pair_taken, record_taken, summary_number, summary_after};
@@ -68,6 +71,17 @@ pub extern "C" fn vi_constant_100(viscosity: u32, density: u32, row: &mut [i32])
     ensures right { ConstantCall At100 viscosity density row.old result row.new }
 {
     constant_row::fill_row(Temperature::At100, viscosity, density, row)
+}
+
+// The span of the index where both viscosities are known within limits, as a row of two numbers. A row of another length is left as it is, and 5 is answered; a
+// refusal leaves it as it is too.
+#[unsafe(no_mangle)]
+pub extern "C" fn vi_span(u1: u32, u2: u32, y1: u32, y2: u32, row: &mut [i32]) -> u32
+    ensures number { result ≡ span.row_number row.old u1 u2 y1 y2 }
+    ensures numbers { row.new ≡ span.row_after row.old u1 u2 y1 y2 }
+    ensures right { SpanCall u1 u2 y1 y2 row.old result row.new }
+{
+    span_row::fill_row(u1, u2, y1, y2, row)
 }
 
 // Puts a sample into a lent tray: the pair's answer as one record. A refused call leaves the tray and the record as they are.

@@ -1,0 +1,3 @@
+-- The laws of the row.
+pub mod NoRow
+pub mod Forced

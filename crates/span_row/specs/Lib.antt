@@ -1,0 +1,2 @@
+-- The definitions that the contract of the row cites.
+pub mod SpanCall
