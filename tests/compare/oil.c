@@ -419,14 +419,14 @@ static struct record own_b(const struct oil *o)
     struct record r = { .method = B_SETTLED };
     r.p = floor_of_qn(o);
     r.P = compare_with_qn(o, r.p) == 0 ? r.p : r.p + 1;
-    int64_t k = llrintl(index_b_estimate(o));
-    for (int64_t i = k - 1; i <= k + 1; i++)
+    int64_t k = llrintl(index_b_estimate(o)), first = k > INDEX_AT_H ? k - 1 : k;
+    for (int64_t i = first; i <= k + 1; i++)
         if (r.p >= power_ceiling(100 * i - 50) && r.P <= power_floor(100 * i + 50)) {
             r.index = (int32_t)i;
             return r;
         }
     r.method = B_NEAR;
-    for (int64_t i = k - 1; i <= k + 1; i++)
+    for (int64_t i = first; i <= k + 1; i++)
         if (r.p >= power_ceiling(100 * i - 51) && r.P <= power_floor(100 * i - 49))
             r.index = (int32_t)i;
     return r;
