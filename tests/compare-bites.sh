@@ -1,16 +1,18 @@
 #!/usr/bin/env bash
 # Shows that the comparison can fail: each of these wrong libraries, made from
 # the real one by tests/compare/wrong.c, wrong_constants.c, wrong_trays.c,
-# wrong_numbers.c and wrong_kept.c, must be noticed. The real one must pass the
-# same short run, and so must four that choose otherwise where document 01 or
-# the constant's request leaves the choice free. Then every last digit of the
-# table and of the two formulas, one more and one less.
+# wrong_numbers.c, wrong_kept.c and wrong_spans.c, must be noticed. The real one
+# must pass the same short run, and so must four that choose otherwise where
+# document 01 or the constant's request leaves the choice free, and one that finds
+# the span by a walk. Then every last digit of the table and of the two formulas,
+# one more and one less.
 set -euo pipefail
 . "$(dirname "$0")/compare/common.sh"
 have_headers
 find_archive
-short=(--pairs 200000 --sheets 4000 --constants 400000 --powers 0 --trays 60000)
-short_trays=(--pairs 0 --sheets 0 --constants 0 --powers 0 --trays 60000)
+short=(--pairs 200000 --sheets 4000 --constants 400000 --powers 0 --trays 60000 --spans 120000)
+short_trays=(--pairs 0 --sheets 0 --constants 0 --powers 0 --trays 60000 --spans 0)
+short_spans=(--pairs 0 --sheets 0 --constants 0 --powers 0 --trays 0 --spans 120000)
 
 # In the order of the numbers that wrong.c gives them.
 wrong=(
@@ -211,6 +213,51 @@ wrong_kept=(
     "the higher 32 bits kept first"
 )
 
+# Likewise, wrong_spans.c.
+wrong_spans=(
+    "the least at u1"
+    "the greatest at u2"
+    "both at the middle of u1 and u2"
+    "only y1 and y2 looked at"
+    "only y1 and y2 looked at across 70,000"
+    "only y1, y2 and both sides of 70,000 looked at"
+    "only y1, y2 and the middle looked at"
+    "the last y left out"
+    "the first y left out"
+    "every second y looked at"
+    "the least of the first half"
+    "42 at 200"
+    "42 only above 201"
+    "42 asked before 41"
+    "42 asked after 1"
+    "y2 - y1 taken in 8 bits"
+    "y2 - y1 taken in 16 bits"
+    "41 asked of u only"
+    "41 asked of y only"
+    "41 asked of numbers with sign"
+    "question 4 put to u2"
+    "question 4 put to u1 against y1"
+    "question 1 put to y2"
+    "question 2 put to y1"
+    "question 3 put to u1"
+    "the row's numbers exchanged"
+    "the row left as found"
+    "a refused row changed"
+    "a number beside the row changed"
+    "the row's count not asked"
+    "a longer row taken"
+    "the answer of the span before"
+    "the index by A in 16 bits"
+    "the index by B in 8 bits"
+    "the index without its sign"
+    "near indices one lower"
+    "the index of a near pair where the pair call settles it"
+    "the quadratics used at 70.000 itself"
+)
+
+# The number that follows: right.
+right_spans=("a walk over the pair calls, which the wrong ones start from")
+
 build_compare sound
 "$work/sound" "${short[@]}" >"$work/out" 2>&1 || { cat "$work/out"; die "the real library fails the short run"; }
 
@@ -254,10 +301,19 @@ done
 for i in "${!wrong_kept[@]}"; do
     must_notice wrong_kept.c $((i + 1)) "${wrong_kept[$i]}" "$calls" "${short_trays[@]}"
 done
+spans=--wrap=vi_span
+for i in "${!wrong_spans[@]}"; do
+    must_notice wrong_spans.c $((i + 1)) "${wrong_spans[$i]}" "$spans" "${short_spans[@]}"
+done
+for i in "${!right_spans[@]}"; do
+    build_compare right -DWRONG=$((${#wrong_spans[@]} + i + 1)) "$root/tests/compare/wrong_spans.c" "-Wl,$spans"
+    "$work/right" "${short_spans[@]}" >"$work/out" 2>&1 || { cat "$work/out"; die "not let pass: ${right_spans[$i]}"; }
+    echo "passes: ${right_spans[$i]}: $(sed -n 's/^\(spans [0-9]*: answered [0-9]*\).*/\1/p' "$work/out")"
+done
 # Needs no library: the wrong ones are our own with another table.
 from=$root/tests/compare
 build digits "$from"/{digits,harness,pairs,constants,oil,constant}.c
 "$work/digits" || die "a changed digit is not noticed"
 
-noticed=$((${#wrong[@]} + ${#wrong_constants[@]} + ${#wrong_trays[@]} + ${#wrong_numbers[@]} + ${#wrong_kept[@]}))
+noticed=$((${#wrong[@]} + ${#wrong_constants[@]} + ${#wrong_trays[@]} + ${#wrong_numbers[@]} + ${#wrong_kept[@]} + ${#wrong_spans[@]}))
 echo "compare-bites: passed: $noticed wrong libraries noticed, the real one passes"

@@ -1,9 +1,9 @@
 /*
  * Calls the library as firmware does: every question's number at its edge, buffers of no length, both orders of the blocks, gaps, 2,000
  * pairs, result blocks full of garbage, unaligned buffers, rows of every count that end where the memory ends, trays from empty to full and back,
- * with sample numbers over all 32 bits, stored, read-only and damaged, and a refresh where the places cannot be read. What a sheet or a tray should hold
- * after a call is put together here from what it held before and from vi_pair's records, the kept summary by a walk over the places, and all of it is
- * compared, with the bytes on either side of the buffer.
+ * with sample numbers over all 32 bits, stored, read-only and damaged, and a refresh where the places cannot be read. What a sheet, the row of a
+ * span or a tray should hold after a call is put together here from what it held before and from vi_pair's records, the kept summary by a walk over
+ * the places, and all of it is compared, with the bytes on either side of the buffer.
  */
 #define _DEFAULT_SOURCE
 #include "viscosity_index.h"
@@ -774,6 +774,114 @@ static void damaged_trays(void)
     }
 }
 
+/* ---- spans ---- */
+
+enum { SPAN = VI_SPAN_SIZE };
+
+/* the call's number; the two indices, or every number of the row as it was */
+static void span_is(uint32_t u1, uint32_t u2, uint32_t y1, uint32_t y2, uint32_t number, int32_t least, int32_t greatest)
+{
+    for (size_t after = 0; after <= 4; after++) {
+        const size_t size = (BEFORE + SPAN + after) * sizeof(int32_t);
+        int32_t *numbers = last_numbers(BEFORE + SPAN + after), *row = numbers + BEFORE, wanted[BEFORE + SPAN + 4];
+        fill((uint8_t *)numbers, size);
+        memcpy(wanted, numbers, size);
+        const uint32_t got = vi_span(u1, u2, y1, y2, row, SPAN);
+        check(got == number, "the number of a span", got, number);
+        if (number == VI_ANSWERED) {
+            check(row[VI_SPAN_LEAST] == least, "the least index", (unsigned long)row[VI_SPAN_LEAST], (unsigned long)least);
+            check(row[VI_SPAN_GREATEST] == greatest, "the greatest index", (unsigned long)row[VI_SPAN_GREATEST], (unsigned long)greatest);
+            wanted[BEFORE + VI_SPAN_LEAST] = least;
+            wanted[BEFORE + VI_SPAN_GREATEST] = greatest;
+        }
+        check(memcmp(numbers, wanted, size) == 0, "the row of a span and the numbers beside it", 1, 0);
+    }
+}
+
+static int32_t index_of(uint32_t u, uint32_t y)
+{
+    uint8_t record[VI_RECORD_SIZE];
+    check(vi_pair(u, y, record, sizeof record) == VI_ANSWERED, "a pair inside", 1, VI_ANSWERED);
+    return (int32_t)get32(record + VI_RECORD_INDEX);
+}
+
+/* what vi_pair gives over all y */
+static void span_is_of_pairs(uint32_t u1, uint32_t u2, uint32_t y1, uint32_t y2)
+{
+    int32_t least = INT32_MAX, greatest = INT32_MIN;
+    for (uint32_t y = y1; y <= y2; y++) {
+        const int32_t low = index_of(u2, y), high = index_of(u1, y);
+        least = low < least ? low : least;
+        greatest = high > greatest ? high : greatest;
+    }
+    span_is(u1, u2, y1, y2, VI_ANSWERED, least, greatest);
+}
+
+static void named_spans(void)
+{
+    span_is(73300, 73300, 8860, 8860, VI_ANSWERED, 92, 92);
+    span_is(72567, 74033, 8851, 8869, VI_ANSWERED, 91, 94);       /* by A */
+    span_is(22602, 23058, 5045, 5055, VI_ANSWERED, 153, 160);     /* by B */
+    span_is(28489, 28490, 5000, 5001, VI_ANSWERED, 100, 100);     /* by both */
+    span_is(2172, 2172, 2000, 2134, VI_ANSWERED, 5000, 5012);     /* neither is at y1 or y2 */
+    span_is(144936, 144936, 16776, 16776, VI_ANSWERED, 125, 125); /* near */
+    span_is(144936, 144937, 16770, 16776, VI_ANSWERED, 124, 125);
+    span_is(30000000, 30000000, 70000, 70000, VI_ANSWERED, -749, -749);
+    span_is(30000000, 30000000, 69999, 70001, VI_ANSWERED, -750, -749);
+    span_is(2001, 1000000000, 2000, 2000, VI_ANSWERED, -62499500, 6593);
+    span_is_of_pairs(634102642, 634102642, 70000, 70137); /* the least is at 70,001 */
+    span_is_of_pairs(49150590, 49150590, 69964, 70001);   /* the greatest is at 70,000 */
+    span_is_of_pairs(1500000, 1700000, 69900, 70100);
+    span_is_of_pairs(2201, 2201, 2000, 2200);
+    span_is_of_pairs(2201, 1000000000, 2000, 2200);
+    span_is_of_pairs(500001, 1000000000, 499800, 500000);
+}
+
+/* both sides of every limit */
+static void span_edges(void)
+{
+    span_is(73301, 73300, 8860, 8860, VI_LOWER_ABOVE_UPPER, 0, 0);
+    span_is(73300, 73300, 8861, 8860, VI_LOWER_ABOVE_UPPER, 0, 0);
+    span_is_of_pairs(73300, 73300, 8860, 8860 + VI_SPAN_WIDEST);
+    span_is(73300, 73300, 8860, 8861 + VI_SPAN_WIDEST, VI_LIMITS_TOO_WIDE, 0, 0);
+    span_is(73300, 73300, 2000, 2000 + VI_SPAN_WIDEST + 65536, VI_LIMITS_TOO_WIDE, 0, 0);
+    span_is(20000, 20000, 1999, 2001, VI_Y_BELOW_LEAST, 0, 0);
+    span_is_of_pairs(20000, 20000, 2000, 2001);
+    span_is_of_pairs(900000, 900000, 499999, 500000);
+    span_is(900000, 900000, 500000, 500001, VI_Y_ABOVE_MOST, 0, 0);
+    span_is_of_pairs(900000, 1000000000, 2000, 2000);
+    span_is(900000, 1000000001, 2000, 2000, VI_U_ABOVE_MOST, 0, 0);
+    span_is_of_pairs(2002, 2003, 2000, 2001);
+    span_is(2001, 2003, 2000, 2001, VI_U_NOT_ABOVE_Y, 0, 0);
+    /* several questions fail: the first gives its number */
+    span_is(1, 0, 0, 600000, VI_LOWER_ABOVE_UPPER, 0, 0);
+    span_is(0, UINT32_MAX, UINT32_MAX, 0, VI_LOWER_ABOVE_UPPER, 0, 0);
+    span_is(0, UINT32_MAX, 0, UINT32_MAX, VI_LIMITS_TOO_WIDE, 0, 0);
+    span_is(0, 1000000001, 1999, 500001, VI_LIMITS_TOO_WIDE, 0, 0);
+    span_is(0, 1000000001, 1999, 2000, VI_Y_BELOW_LEAST, 0, 0);
+    span_is(0, 1000000001, 500000, 500001, VI_Y_ABOVE_MOST, 0, 0);
+    span_is(0, 1000000001, 2000, 2000, VI_U_ABOVE_MOST, 0, 0);
+    span_is(UINT32_MAX, UINT32_MAX, UINT32_MAX, UINT32_MAX, VI_Y_ABOVE_MOST, 0, 0);
+}
+
+/* a row of any other count is left as it was, whatever is asked; one of no numbers may have no place */
+static void span_row_counts(void)
+{
+    static const uint32_t asked[][4] = {{73300, 73300, 8860, 8860}, {73301, 73300, 8860, 8860}, {73300, 73300, 8860, 9061}, {73300, 73300, 1999, 2000},
+                                        {73300, UINT32_MAX, 8860, 8860}, {0, 0, 8860, 8860}};
+    int32_t as_before[MOST_NUMBERS];
+    for (size_t count = 0; count <= MOST_NUMBERS; count++)
+        for (size_t i = 0; i < sizeof asked / sizeof *asked && count != SPAN; i++) {
+            int32_t *row = last_numbers(count);
+            fill((uint8_t *)row, count * sizeof *row);
+            memcpy(as_before, row, count * sizeof *row);
+            const uint32_t got = vi_span(asked[i][0], asked[i][1], asked[i][2], asked[i][3], row, count);
+            check(got == VI_SPAN_NOT_2, "a row that is not 2 numbers", got, VI_SPAN_NOT_2);
+            check(memcmp(row, as_before, count * sizeof *row) == 0, "a row that is not 2 numbers is kept", 1, 0);
+        }
+    check(vi_span(73300, 73300, 8860, 8860, NULL, 0) == VI_SPAN_NOT_2, "no row of a span", 0, VI_SPAN_NOT_2);
+}
+
 int main(void)
 {
     pair_edges();
@@ -797,10 +905,13 @@ int main(void)
     tray_places_not_read();
     tray_sizes();
     damaged_trays();
+    named_spans();
+    span_edges();
+    span_row_counts();
     if (failures != 0) {
         printf("C calls: %u of %u checks failed\n", failures, checks);
         return 1;
     }
-    printf("C calls: %u checks of the pairs, the sheets, the constants and the trays\n", checks);
+    printf("C calls: %u checks of the pairs, the sheets, the constants, the trays and the spans\n", checks);
     return 0;
 }

@@ -1,8 +1,8 @@
 /* Compares the library, through its C calls, with the implementation of document
-   01 in oil.c, the model of a sheet in sheets.c, the constant in constant.c and the
-   tray in tray.c.
+   01 in oil.c, the model of a sheet in sheets.c, the constant in constant.c, the
+   tray in tray.c and the span in span_call.c.
 
-     compare [--pairs N] [--sheets M] [--constants C] [--powers P] [--trays T] [--seed S]
+     compare [--pairs N] [--sheets M] [--constants C] [--powers P] [--trays T] [--spans W] [--seed S]
 
    Ends at the first difference with exit code 1 and a line that names it. */
 #include "compare.h"
@@ -25,12 +25,13 @@ static uint64_t option(int argc, char **argv, const char *name, uint64_t otherwi
 
 static bool options_known(int argc, char **argv)
 {
-    static const char *const names[] = { "--pairs", "--sheets", "--constants", "--powers", "--trays", "--seed" };
+    static const char *const names[] = { "--pairs", "--sheets", "--constants", "--powers", "--trays", "--spans",
+        "--seed" };
     if (argc % 2 == 0)
         return false;
     for (int i = 1; i < argc; i += 2) {
         bool known = false;
-        for (int j = 0; j < 6; j++)
+        for (int j = 0; j < 7; j++)
             known = known || strcmp(argv[i], names[j]) == 0;
         if (!known)
             return false;
@@ -104,10 +105,32 @@ static void print_kept(void)
         tally.kept_beyond, tally.kept_otherwise, tally.not_the_walk, tally.before_105);
 }
 
+static void print_spans(void)
+{
+    printf("spans %" PRIu64 ": answered %" PRIu64 ", refused by question", tally.spans, tally.span_refused[0]);
+    static const int questions[] = { 1, 2, 3, 4, 5, 41, 42 };
+    for (int i = 0; i < 7; i++)
+        printf(" %d: %" PRIu64 "%s", questions[i], tally.span_refused[questions[i]], i < 6 ? "," : "");
+    uint64_t beyond = UINT64_MAX, both = UINT64_MAX;
+    for (int i = 0; i < SPAN_QUESTIONS; i++) {
+        beyond = tally.just_beyond[i] < beyond ? tally.just_beyond[i] : beyond;
+        for (int j = i + 1; j < SPAN_QUESTIONS; j++)
+            both = tally.both_refuse[i][j] < both ? tally.both_refuse[i][j] : both;
+    }
+    printf("; by each but 5 just beyond its limit at least %" PRIu64 ", where another refuses too at least %" PRIu64
+        "\n", beyond, both);
+    printf("spans answered:");
+    for (int i = 0; i < SPAN_KINDS; i++)
+        printf(" %s %" PRIu64 "%s", span_kinds[i], tally.of_kind[i], i + 1 < SPAN_KINDS ? ";" : "\n");
+    printf("pairs inside asked %" PRIu64 "; index from %" PRId64 " to %" PRId64 "\n", tally.inside, tally.span_least,
+        tally.span_greatest);
+}
+
 int main(int argc, char **argv)
 {
     if (!options_known(argc, argv)) {
-        fprintf(stderr, "usage: compare [--pairs N] [--sheets M] [--constants C] [--powers P] [--trays T] [--seed S]\n");
+        fprintf(stderr, "usage: compare [--pairs N] [--sheets M] [--constants C] [--powers P] [--trays T] [--spans W]"
+            " [--seed S]\n");
         return 2;
     }
     setvbuf(stdout, NULL, _IOLBF, 0);
@@ -121,13 +144,16 @@ int main(int argc, char **argv)
     compare_sheets(sheets);
     compare_constants(constants, option(argc, argv, "--powers", 4));
     compare_trays(option(argc, argv, "--trays", 2000000));
+    compare_spans(option(argc, argv, "--spans", 1500000));
     print_tally();
     print_constants();
     print_trays();
     print_numbers();
     print_kept();
-    printf("compare: passed: %" PRIu64 " pairs, %" PRIu64 " sheets, %" PRIu64 " constants and %" PRIu64
-        " calls with trays agree", tally.pairs, tally.sheets, tally.constants, tally.tray_calls);
+    print_spans();
+    printf("compare: passed: %" PRIu64 " pairs, %" PRIu64 " sheets, %" PRIu64 " constants, %" PRIu64
+        " calls with trays and %" PRIu64 " spans agree", tally.pairs, tally.sheets, tally.constants, tally.tray_calls,
+        tally.spans);
     printf(", seed %" PRIu64 ", %ld s\n", seed, (long)(time(NULL) - start));
     return 0;
 }

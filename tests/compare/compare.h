@@ -7,28 +7,39 @@
 #include "oil.h"
 
 /* "first asks whether the record is just 16 bytes (no: 5)"; likewise a row of
-   another count than 3, and any memory lent to a call with a tray */
+   another count than 3 or, of a span, 2, and any memory lent to a call with a tray */
 enum { WRONG_LENGTH = 5 };
 
 /* To be called once, before anything else: one seed for all random numbers, so
    that a failure can be repeated. */
 void begin(uint64_t seed);
+/* Random numbers of a part's own: what the parts before it have drawn does not
+   change them. */
+void begin_part(uint64_t part);
 uint64_t random64(void);
 /* A whole number from low to high, both included. */
 int64_t random_in(int64_t low, int64_t high);
 /* The same, but each power of two as likely as the next. */
 int64_t random_log(int64_t low, int64_t high);
 
+/* Between which u and y of an oil are known. */
+struct limits { uint32_t u1, u2, y1, y2; };
+
 /* What is being called, for the line that a failure prints. */
 void now_pair(uint32_t u, uint32_t y);
 void now_sheet(uint64_t which, const uint8_t *bytes, size_t length);
 void now_constant(int degrees, uint32_t viscosity, uint32_t density, const int32_t *row);
 void now_tray(const char *call, uint32_t number, int held, uint64_t list);
+void now_span(const struct limits *s, const int32_t *row);
 _Noreturn void fail(const char *what, const uint8_t *record);
 void progress(const char *name, uint64_t done, uint64_t of);
 
 /* Bytes that end where the memory ends: one past them is a fault. */
 uint8_t *last_bytes(size_t length);
+int32_t *last_numbers(size_t count);
+
+/* The questions to a span, and the kinds of answered spans that have to be met. */
+enum { SPAN_QUESTIONS = 6, SPAN_KINDS = 20 };
 
 struct tally {
     uint64_t pairs, refused[5], a, settled, near, sheets, accepted, sheet_refused[17], records;
@@ -53,6 +64,11 @@ struct tally {
        beyond all bounds, or within them and not the walk's; calls with 512 numbers */
     uint64_t refreshes, last_left, between_left, lowest_left[2], highest_left[2];
     uint64_t not_the_walk, kept_beyond, kept_otherwise, before_105;
+    /* of spans: by the number answered; by the question, a thousandth beyond its limit;
+       by two questions that refuse them both; answered ones by kind; pairs asked */
+    uint64_t spans, span_refused[43], just_beyond[SPAN_QUESTIONS], both_refuse[SPAN_QUESTIONS][SPAN_QUESTIONS];
+    uint64_t of_kind[SPAN_KINDS], inside;
+    int64_t span_least, span_greatest;
 };
 extern struct tally tally;
 
@@ -78,5 +94,9 @@ void compare_constants(uint64_t wanted, uint64_t by_powers);
 void compare_formula(const struct formula *f, int64_t step);
 /* So many calls with trays, in lists. */
 void compare_trays(uint64_t wanted);
+/* So many spans, the same ones whatever the other parts ask. */
+void compare_spans(uint64_t wanted);
+/* What the kinds of spans are called. */
+extern const char *const span_kinds[SPAN_KINDS];
 
 #endif

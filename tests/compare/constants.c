@@ -8,12 +8,6 @@
 
 enum { FRAME = 8 };             /* numbers on each side that must stay */
 
-/* Numbers that end where the memory ends. */
-static int32_t *last_numbers(size_t count)
-{
-    return (int32_t *)(void *)last_bytes(count * sizeof(int32_t));
-}
-
 static uint32_t call(const struct formula *f, uint32_t viscosity, uint32_t density, int32_t *row, size_t count)
 {
     now_constant(f->degrees, viscosity, density, count == ROW ? row : NULL);

@@ -58,6 +58,8 @@ static const char *now_call;
 static uint32_t now_number;
 static int now_held;
 static uint64_t now_list;
+static struct limits now_limits;
+static bool now_spans;
 
 void now_pair(uint32_t u, uint32_t y)
 {
@@ -90,6 +92,14 @@ void now_tray(const char *call, uint32_t number, int held, uint64_t list)
     now_degrees = 0;
 }
 
+void now_span(const struct limits *s, const int32_t *row)
+{
+    now_limits = *s;
+    now_row = row;
+    now_spans = true;
+    now_pair(0, 0);
+}
+
 static void print_bytes(const char *name, const uint8_t *bytes, size_t length)
 {
     printf("  %s:", name);
@@ -106,9 +116,23 @@ static void print_constant(void)
         printf("  row: %" PRId32 " %" PRId32 " %" PRId32 "\n", now_row[0], now_row[1], now_row[2]);
 }
 
+static void print_span(void)
+{
+    printf("  span: u %" PRIu32 " to %" PRIu32 " y %" PRIu32 " to %" PRIu32 ", seed %" PRIu64 "\n",
+        now_limits.u1, now_limits.u2, now_limits.y1, now_limits.y2, seed);
+    if (now_row != NULL)
+        printf("  row: %" PRId32 " %" PRId32 "\n", now_row[0], now_row[1]);
+    if (now_y != 0)
+        printf("  pair inside: u %" PRIu32 " y %" PRIu32 "\n", now_u, now_y);
+}
+
 _Noreturn void fail(const char *what, const uint8_t *record)
 {
     printf("compare: FAILED: %s\n", what);
+    if (now_spans) {
+        print_span();
+        exit(1);
+    }
     if (now_degrees != 0) {
         print_constant();
         exit(1);
@@ -168,9 +192,19 @@ uint8_t *last_bytes(size_t length)
     return arena + ARENA - length;
 }
 
+int32_t *last_numbers(size_t count)
+{
+    return (int32_t *)(void *)last_bytes(count * sizeof(int32_t));
+}
+
 void begin(uint64_t with_seed)
 {
     seed = with_seed;
     random_state = with_seed;
     make_arena();
+}
+
+void begin_part(uint64_t part)
+{
+    random_state = seed + (part << 32);
 }

@@ -447,3 +447,28 @@ struct record own_answer(const struct row *rows, uint32_t u, uint32_t y)
     struct oil o = oil_by(rows, u, y);
     return own_record(&o);
 }
+
+/* ---- the indices that are allowed ---- */
+
+/* Do the whole numbers beside Q*N, or Q*N itself, show k, settled or near? */
+static bool is_shown(const struct oil *o, int64_t k)
+{
+    uint32_t p = floor_of_qn(o), P = compare_with_qn(o, p) == 0 ? p : p + 1;
+    if (p >= power_ceiling(100 * k - 50) && P <= power_floor(100 * k + 50))
+        return true;
+    return p >= power_ceiling(100 * k - 51) && P <= power_floor(100 * k - 49);
+}
+
+struct choice index_choices(const struct oil *o)
+{
+    if (!below_h(o)) {
+        int64_t k = index_a(o);
+        return (struct choice){ k, k };
+    }
+    const long double slack = 1e-9L;
+    long double x = index_b_estimate(o);
+    int64_t below = (int64_t)floorl(x), nearest = llrintl(x);
+    if (fabsl(x - ((long double)below + 0.5L)) > 0.01L + slack)
+        return (struct choice){ nearest, nearest };
+    return (struct choice){ is_shown(o, below) ? below : below + 1, is_shown(o, below + 1) ? below + 1 : below };
+}

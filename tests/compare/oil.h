@@ -84,4 +84,9 @@ const char *fault(uint32_t u, uint32_t y, const uint8_t *bytes);
 struct record own_record(const struct oil *o);
 struct record own_answer(const struct row *rows, uint32_t u, uint32_t y);
 
+/* The least and the greatest index that a right answer to the oil may have. They are
+   two where the exact one is at most a hundredth below a half: near is then allowed. */
+struct choice { int64_t lower, upper; };
+struct choice index_choices(const struct oil *o);
+
 #endif

@@ -5,7 +5,8 @@
 #include <string.h>
 
 struct tally tally = { .index_least = INT64_MAX, .index_greatest = INT64_MIN,
-    .k_least = INT64_MAX, .k_greatest = INT64_MIN, .sum_least = INT64_MAX, .sum_greatest = INT64_MIN };
+    .k_least = INT64_MAX, .k_greatest = INT64_MIN, .sum_least = INT64_MAX, .sum_greatest = INT64_MIN,
+    .span_least = INT64_MAX, .span_greatest = INT64_MIN };
 
 /* ---- one pair ---- */
 
