@@ -13,9 +13,7 @@ work=$(mktemp -d)
 trap 'rm -rf "$work"' EXIT
 . "$root/tests/archive.bash"
 
-# Table 1 for plain C, in mm2/s
-awk 'BEGIN { print "static const struct { double l, h; } rows[] = {" } !/^#/ { printf "{%s, %s},\n", $2, $3; n++ }
-     END { print "};\nenum { ROWS = " n " };" }' "$root/data/table1.txt" >"$work/table.h"
+awk -f "$root/bench/table.awk" "$root/data/table1.txt" >"$work/table.h"
 gcc -std=gnu11 -Wall -Wextra -Werror -O2 -I"$root/include" -I"$work" "$root/bench/index.c" "$archive" -lmpfr -lgmp -lm -o "$work/index"
 
 instructions() { # WHAT OILS TIMES

@@ -1,4 +1,4 @@
-/* What the measurements of an index, of a constant and of a tray share: the same random oils in each run, the clock, and how a figure is reported. */
+/* What the measurements of an index, a span, a constant and a tray share: the same random oils in each run, the clock, and how a figure is reported. */
 #ifndef MEASURE_H
 #define MEASURE_H
 
@@ -33,11 +33,16 @@ static int by_size(const void *x, const void *y)
     return (d > 0) - (d < 0);
 }
 
-/* the median of the repeats, with the least and the greatest */
-static void report(const char *what, double *values)
+/* the median of the repeats, with the least and the greatest, to so many decimal places */
+static void report_to(int places, const char *what, double *values)
 {
     qsort(values, REPEATS, sizeof *values, by_size);
-    printf("  %-34s %9.2f  (%.2f to %.2f)\n", what, values[REPEATS / 2], values[0], values[REPEATS - 1]);
+    printf("  %-34s %9.*f  (%.*f to %.*f)\n", what, places, values[REPEATS / 2], places, values[0], places, values[REPEATS - 1]);
+}
+
+static void report(const char *what, double *values)
+{
+    report_to(2, what, values);
 }
 
 #endif

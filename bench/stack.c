@@ -12,15 +12,26 @@ enum { BELOW = 64 * 1024, ABOVE = 1024, MOST = VI_MOST_PAIRS, DRAWN = 20000 };
 
 static _Alignas(16) unsigned char block[BELOW + ABOVE];
 static uint8_t record[VI_RECORD_SIZE], sheet[VI_HEADER_SIZE + (VI_PAIR_SIZE + VI_RECORD_SIZE) * MOST];
-static int32_t row[3];
+static int32_t row[3], span_row[VI_SPAN_SIZE];
 static uint32_t tray[VI_TRAY_SIZE], before[VI_TRAY_SIZE], sample[VI_SAMPLE_PAIR_SIZE]; /* before each call the tray is `before` */
 static int64_t summary[VI_SUMMARY_SIZE];
 static long most_pair, most_sheet, most_40, most_100, most_put, most_take, most_summary, calls_pair, calls_sheet, calls_constant, calls_tray;
+static long most_span, calls_span;
 
 /* refused pairs, a pair by A, B settled, B near, an index above the thresholds, y above Table 1 */
 static const uint32_t named[][2] = {{20000, 1999}, {900000, 500001}, {1000000001, 2000}, {2000, 2000}, {73300, 8860}, {22830, 5050},
                                     {198274, 48398}, {69133, 49390}, {2001, 2000}, {500001, 500000}, {1400000, 150000}};
 enum { NAMED = sizeof named / sizeof *named };
+
+/* refused limits by every number, spans by A, by B and across H, across the end of Table 1, indices above the thresholds, and the widest limits of all */
+static const uint32_t named_spans[][4] = {
+    {73300, 73299, 8860, 8860},       {73300, 73300, 8861, 8860},     {73300, 73300, 8660, 8861},       {20000, 20000, 1999, 2000},
+    {900000, 900000, 499900, 500001}, {20000, 1000000001, 2000, 2000}, {2100, 73300, 2000, 2100},       {73300, 73300, 8860, 8860},
+    {73300, 73557, 8860, 9060},       {22830, 22910, 5050, 5250},     {60000, 60210, 8860, 9060},       {30000000, 30000000, 69900, 70100},
+    {1400000, 1404900, 69801, 70001}, {69133, 69375, 49190, 49390},   {1400000, 1404900, 150000, 150200}, {500001, 501751, 499800, 500000},
+    {2201, 2201, 2000, 2200},         {2201, 1000000000, 2000, 2200},
+};
+enum { NAMED_SPANS = sizeof named_spans / sizeof *named_spans };
 
 static uint64_t address(const void *memory)
 {
@@ -136,6 +147,32 @@ static void draw_pair(int i, uint32_t *u, uint32_t *y)
     *u = drawn(*y + 1, (i % 3 + 1) * 8 * *y);
 }
 
+static void span(uint32_t u1, uint32_t u2, uint32_t y1, uint32_t y2, size_t count)
+{
+    long bytes = used((const void *)vi_span, (uint64_t[6]){u1, u2, y1, y2, address(span_row), count}, NULL);
+    most_span = bytes > most_span ? bytes : most_span;
+    calls_span++;
+}
+
+/* the named ones, a row that is not two numbers, spans of any width round drawn pairs, and the dearest: u1 just above y2 at the lowest y, where hardly any
+   stretch of y is passed over */
+static void spans(void)
+{
+    for (size_t i = 0; i < NAMED_SPANS; i++)
+        span(named_spans[i][0], named_spans[i][1], named_spans[i][2], named_spans[i][3], VI_SPAN_SIZE);
+    span(73300, 73557, 8860, 9060, 0);
+    for (int i = 0; i < DRAWN; i++) {
+        uint32_t u, y, width = i % 4 == 0 ? drawn(0, VI_SPAN_WIDEST) : VI_SPAN_WIDEST;
+        draw_pair(i, &u, &y);
+        y = y > VI_Y_GREATEST - width ? VI_Y_GREATEST - width : y;
+        u = u > y + width ? u : y + width + 1;
+        span(u, u + drawn(0, u / 200), y, y + width, VI_SPAN_SIZE);
+    }
+    for (uint32_t y = VI_Y_LEAST; y <= 2600; y++)
+        for (uint32_t width = 0; width <= VI_SPAN_WIDEST; width += 50)
+            span(y + width + 1, y + width + 1 + drawn(0, 10), y, y + width, VI_SPAN_SIZE);
+}
+
 /* A summary, a take and a put of the tray `before`, which stays as it is; `tray` is as the put leaves it. */
 static void tray_calls(uint32_t number, uint32_t u, uint32_t y, size_t count, size_t length)
 {
@@ -221,8 +258,10 @@ int main(void)
     one_sheet(1, 0);
     constants();
     trays();
+    spans();
     printf("stack: vi_pair %ld bytes, vi_sheet %ld bytes, the most of %ld and of %ld calls\n", most_pair, most_sheet, calls_pair, calls_sheet);
     printf("stack: vi_constant_40 %ld bytes, vi_constant_100 %ld bytes, the most of %ld calls\n", most_40, most_100, calls_constant);
+    printf("stack: vi_span %ld bytes, the most of %ld calls\n", most_span, calls_span);
     printf("stack: vi_tray_put %ld bytes, vi_tray_take %ld bytes, vi_tray_summary %ld bytes, the most of %ld calls of each\n", most_put, most_take,
         most_summary, calls_tray);
     return 0;
