@@ -7,7 +7,7 @@ trap 'rm -rf "$work"' EXIT
 
 . tests/archive.bash
 flags=(-Wall -Wextra -Werror -O2 -Iinclude)
-for example in example tray; do
+for example in example tray span; do
     gcc -std=c99 "${flags[@]}" "samples/c/$example.c" "$archive" -o "$work/c"
     g++ -x c++ "${flags[@]}" "samples/c/$example.c" -x none "$archive" -o "$work/c++"
     for program in c c++; do
