@@ -7,7 +7,7 @@ use native.Mathlib.Nat.{add-suc, suc-add, add-zero, zero-add}
 use native.Mathlib.Numerals.{add-one}
 use native.Mathlib.Omega.{arith}
 use lib.ListN.{length, get_or, take, drop, set, length-drop, drop_of_length-le, take-append-drop}
-use Rattle.std.proofs.lemmas.List.{drop-drop}
+use Rattle.std.proofs.lemmas.List.{drop-drop, set_comm}
 use lib.Seq.{sets, length-sets, sets-eq, get_or-set_other, take_all, length-take-le}
 use Rattle.answer_record.specs.Bytes.{number_size, number_at, stored}
 
@@ -34,6 +34,25 @@ stored_append l vs ws i = sym (sets_append vs ws l i)
 pub stored_then : (l vs ws : List ℕ) (at : ℕ) {m k : List ℕ} {next : ℕ} → m ≡ stored l at vs → next ≡ at + length vs → k ≡ stored m next ws
     → k ≡ stored l at (vs ++ ws)
 stored_then l vs ws at e p f = rw (e, p) at f ∙ stored_append l vs ws at
+
+-- two runs that share no place, in either order
+set_past : (vs l : List ℕ) (i j x : ℕ) → (j < i) ⊎ (i + length vs ≤ j) → set (sets l i vs) j x ≡ sets (set l j x) i vs
+set_past [] l i j x h = refl
+set_past (v ∷ vs) l i j x (inl h) =
+    set_past vs (set l i v) (suc i) j x (inl (omega arith)) ∙ ap (λ (m : List ℕ). sets m (suc i) vs) (set_comm l i j v x (λ (e : i ≡ j). omega arith))
+set_past (v ∷ vs) l i j x (inr h) =
+    set_past vs (set l i v) (suc i) j x (inr (omega arith)) ∙ ap (λ (m : List ℕ). sets m (suc i) vs) (set_comm l i j v x (λ (e : i ≡ j). omega arith))
+
+sets_past_each_other : (ws vs l : List ℕ) (i j : ℕ) → (j + length ws ≤ i) ⊎ (i + length vs ≤ j) → sets (sets l i vs) j ws ≡ sets (sets l j ws) i vs
+sets_past_each_other [] vs l i j h = refl
+sets_past_each_other (w ∷ ws) vs l i j (inl h) =
+    ap (λ (m : List ℕ). sets m (suc j) ws) (set_past vs l i j w (inl (omega arith))) ∙ sets_past_each_other ws vs (set l j w) i (suc j) (inl (omega arith))
+sets_past_each_other (w ∷ ws) vs l i j (inr h) =
+    ap (λ (m : List ℕ). sets m (suc j) ws) (set_past vs l i j w (inr h)) ∙ sets_past_each_other ws vs (set l j w) i (suc j) (inr (omega arith))
+
+pub stored_apart : (l vs ws : List ℕ) (i j : ℕ) → (j + length ws ≤ i) ⊎ (i + length vs ≤ j) → stored (stored l i vs) j ws ≡ stored (stored l j ws) i vs
+unfolding stored
+stored_apart l vs ws i j h = sets_past_each_other ws vs l i j h
 
 -- a run that lies within the list, in three parts
 pub stored_parts : (l vs : List ℕ) (i : ℕ) → i + length vs ≤ length l → stored l i vs ≡ take i l ++ (vs ++ drop (i + length vs) l)

@@ -9,7 +9,7 @@ ghost use Rattle.std.specs.Prelude.{◌≡◌, ◌+◌, ◌*◌, ◌≤◌, leng
 ghost use Rattle.answer_record.specs.Bytes.{stored};
 ghost use Rattle.answer_record.specs.Record.{result_size, record_of};
 
-pub use bytes::{number_at, twos_complement};
+pub use bytes::{number_at, store_number, twos_complement};
 use index::Answer;
 use layout::RESULT_SIZE;
 pub use store::{Record, store_record};

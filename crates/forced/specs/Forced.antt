@@ -6,9 +6,8 @@ use Rattle.reference.specs.declared.refusal.Refusal.TheVariants.{ThinAt100}
 use Rattle.index.specs.declared.answer.Index.TheVariants.{A}
 use Rattle.answer_record.specs.Bytes.{bytes_of}
 use Rattle.answer_record.specs.Record.{record_of}
-use Rattle.sheet.specs.Sheet.{sheet_refusal}
+use Rattle.sheet.specs.Sheet.{header_of, sheet_refusal}
 use Rattle.sheet.specs.Demand3.{n, u, y, bytes, method, index, lower, upper, RightRecords, Certified, Ordered, Demand3}
-use Rattle.sheet.specs.Examples.{header_alone}
 use Rattle.forced.specs.ForcedAnswers.{Forced156, ForcedNear125}
 
 -- pair i of the sheet is (v, w)
@@ -35,7 +34,7 @@ pub record Forced (before after : List ℕ) : Type 0 where
 -- a sheet of these four pairs, the refused one first, with what was found in its result block
 abbrev pub four_pairs : List ℕ → List ℕ
 four_pairs found =
-    header_alone 4 16 48 112
+    header_of 4 16 48 112
     ++ (bytes_of 20000 ++ bytes_of 1999 ++ bytes_of 73300 ++ bytes_of 8860 ++ bytes_of 22830 ++ bytes_of 5050 ++ bytes_of 144936 ++ bytes_of 16776 ++ found)
 
 -- such a sheet is accepted, and its pairs are those four: what is forced is forced of some sheet

@@ -6,14 +6,14 @@ use lib.ListN.{length}
 use Rattle.answer_record.specs.Bytes.{number_at, bytes_of}
 use Rattle.std.specs.Prelude.{Ok, Err}
 use Rattle.sheet.specs.declared.refusal.Refusal.TheVariants.{TooManyPairs, BlocksShareBytes}
-use Rattle.sheet.specs.Sheet.{stands_within, share_no_byte, blocks_of, sheet_refusal, records_of, sheet_answer_of, sheet_after}
-use Rattle.sheet.specs.Examples.{header_alone, TriedSheets, RefusedSheets, sheet_of, GreatestSheet}
+use Rattle.sheet.specs.Sheet.{header_of, stands_within, share_no_byte, blocks_of, sheet_refusal, records_of, sheet_answer_of, sheet_after}
+use Rattle.sheet.specs.Examples.{TriedSheets, RefusedSheets, sheet_of, GreatestSheet}
 
 pub tried_sheets : TriedSheets
 unfolding sheet_answer_of sheet_after records_of sheet_refusal blocks_of stands_within share_no_byte number_at bytes_of
 tried_sheets = record { accepted = refl; unchanged = refl; pair_offset = refl; result_offset = refl }
 
-shared : (blocks : List ℕ) → length blocks ≡ 20 → sheet_answer_of (header_alone 1 16 20 36 ++ blocks) ≡ Err BlocksShareBytes
+shared : (blocks : List ℕ) → length blocks ≡ 20 → sheet_answer_of (header_of 1 16 20 36 ++ blocks) ≡ Err BlocksShareBytes
 unfolding sheet_answer_of blocks_of stands_within share_no_byte number_at bytes_of
 shared blocks e = rw e refl
 

@@ -79,8 +79,7 @@ pub number_of_answer : (s : List ℕ) → sheet_number_of (sheet_answer_of s) �
 unfolding sheet_answer_of sheet_refusal
 number_of_answer s = same_number (blocks_of s)
 
--- an accepted sheet keeps its length and its header's numbers, and, as the paper says, "all bytes outside the result block stay".
--- No proof cites `outside_kept`; it shows that sentence of `sheet_after`
+-- an accepted sheet keeps its length and its header's numbers, and, as the paper says, "all bytes outside the result block stay"
 pub same_length : (s : List ℕ) → sheet_refusal s ≡ 0 → length (sheet_after s) ≡ length s
 same_length s q = ap length (sym (all_stored s q)) ∙ length_stored _ _ _
 

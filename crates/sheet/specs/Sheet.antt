@@ -2,7 +2,7 @@
 use Rattle.index.specs.Answer.{Answer}
 use Rattle.std.specs.Prelude.{ℕ, zero, suc, ◌+◌, ◌*◌, Bool, true, false, cond, ◌&&◌, ◌||◌, List, [], ◌++◌, leb, eqb, length, take, drop, Result, Ok, Err}
 use Rattle.index.specs.ChosenAnswer.{answer_of}
-use Rattle.answer_record.specs.Bytes.{number_at}
+use Rattle.answer_record.specs.Bytes.{number_at, bytes_of}
 use Rattle.answer_record.specs.Record.{result_size, record_of}
 use Rattle.sheet.specs.declared.questions.Blocks.{Blocks}
 use Rattle.sheet.specs.declared.refusal.Refusal.{Refusal}
@@ -37,6 +37,10 @@ results_of sheet = number_at sheet results_offset
 abbrev pub total_of : List ℕ → ℕ
 total_of sheet = number_at sheet total_offset
 
+-- the bytes of a header, as the examples and the writer of crate sheet_writer put them together
+abbrev pub header_of : ℕ → ℕ → ℕ → ℕ → List ℕ
+header_of n pairs results total = bytes_of n ++ (bytes_of pairs ++ (bytes_of results ++ bytes_of total))
+
 -- "A pair is 8 bytes, u then y."
 abbrev pub pair_size : ℕ
 pair_size = 8
@@ -69,7 +73,7 @@ abbrev pub named_blocks : List ℕ → Blocks
 named_blocks sheet = record { count = count_of sheet; pairs = pairs_of sheet; results = results_of sheet }
 
 -- a question: no gives its refusal, yes what comes after it
-abbrev pub asked : Bool → Refusal → Result Blocks Refusal → Result Blocks Refusal
+abbrev pub asked : {A R : Type 0} → Bool → R → Result A R → Result A R
 asked true refusal later = later
 asked false refusal later = Err refusal
 
