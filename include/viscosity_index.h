@@ -1,21 +1,22 @@
 /*
  * The viscosity index of ASTM D2270 from an oil's kinematic viscosities at 40 °C (u) and at 100 °C (y), each a whole number of
- * thousandths of a mm²/s: for one pair, and for a sheet of up to 2,000 pairs; and its span where both are known within limits. The
- * viscosity-gravity constant of an oil from its density and one of its viscosities. And a tray of up to 64 samples, each with a number, its pair
- * and its answer, and the summary of a tray.
+ * thousandths of a mm²/s: for one pair, and for a sheet of up to 2,000 pairs, which can be written from its pairs; and its span where both
+ * are known within limits. The viscosity-gravity constant of an oil from its density and one of its viscosities. And a tray of up to 64
+ * samples, each with a number, its pair and its answer, and the summary of a tray.
  *
  * What a caller may rely on, for any numbers and any bytes:
  * - Every function returns, and answers one of the numbers below. There is nothing to test beforehand or to free, and nothing to initialise but a
  *   new tray, to zeros.
  * - They read and write only the memory lent to them, remember nothing between calls, and may run at the same time on different memory. What a
  *   tray holds, and the summary that it keeps, stand in the memory lent for it and nowhere else.
- * - A buffer of bytes may have any alignment; a row of a constant or of a span is aligned as any array of int32_t, a tray and the pair of a
- *   sample as any array of uint32_t, a summary as any array of int64_t. The memories lent to one call must not overlap. Where a length or count
- *   is 0, nothing is read through the pointer.
+ * - A buffer of bytes may have any alignment; a row of a constant or of a span is aligned as any array of int32_t, a row of pairs, a tray and
+ *   the pair of a sample as any array of uint32_t, a summary as any array of int64_t. The memories lent to one call must not overlap. Where a
+ *   length or count is 0, nothing is read through the pointer.
  * - The same question always gets the same answer; a pair in a record as in a sheet, and in a tray that calls have filled.
- * - A refused sheet, a record that is not 16 bytes, a row of a constant that is not 3 numbers or of a span that is not 2, the row of a refused
- *   constant or of refused limits, and all memory lent to a refused call with a tray are left as they were. vi_pair and vi_sheet fill the record
- *   of a refused pair as any other, with the pair's number and zeros; a refused pair does not stop its sheet.
+ * - A refused sheet, the buffer of a refused writing, a record that is not 16 bytes, a row of a constant that is not 3 numbers or of a span
+ *   that is not 2, the row of a refused constant or of refused limits, and all memory lent to a refused call with a tray are left as they were.
+ *   vi_pair and vi_sheet fill the record of a refused pair as any other, with the pair's number and zeros; a refused pair does not stop its
+ *   sheet.
  *
  * Numbers in bytes are least significant first.
  */
@@ -60,6 +61,12 @@
 #define VI_SHEET_RESULTS 15u /* The same for the result block (offset + 16n)? */
 #define VI_SHEET_SHARED 16u  /* Do the blocks share no byte? */
 
+/* The number of a writing, likewise. n is the count of pairs in the row, half of that of its numbers. */
+#define VI_WRITTEN 0u           /* every question is answered yes */
+#define VI_ROW_ODD 51u          /* Has the row an even count of numbers? */
+#define VI_ROW_TOO_LONG 52u     /* Has it at most 2,000 pairs? */
+#define VI_BUFFER_NOT_SHEET 53u /* Has the buffer just 16 + 24n bytes, VI_SHEET_SIZE(n)? */
+
 /* The limits of the constant's density at 15 °C, in 0.0001 g/ml, and of its viscosity at 40 °C or 100 °C, in thousandths of a mm²/s. */
 #define VI_DENSITY_LEAST 5000u              /* 0.5 g/ml */
 #define VI_DENSITY_GREATEST 15000u          /* 1.5 g/ml */
@@ -93,6 +100,9 @@
 #define VI_HEADER_RESULTS 8u  /* the offset of the result block */
 #define VI_HEADER_TOTAL 12u   /* the total length, in bytes */
 #define VI_MOST_PAIRS 2000u   /* the greatest n */
+
+/* The bytes of a sheet of n pairs as vi_write_sheet writes it, with nothing between its blocks. */
+#define VI_SHEET_SIZE(n) (VI_HEADER_SIZE + (VI_PAIR_SIZE + VI_RECORD_SIZE) * (n))
 
 /* A pair: two 32-bit numbers, at these offsets. Pair i stands at the pair offset + 8i. */
 #define VI_PAIR_SIZE 8u /* bytes */
@@ -189,6 +199,15 @@ uint32_t vi_span(uint32_t u1, uint32_t u2, uint32_t y1, uint32_t y2, int32_t *ro
  * pairs, and every other byte is as it was; or one of 11 to 16, and then every byte is as it was.
  */
 uint32_t vi_sheet(uint8_t *sheet, size_t length);
+
+/*
+ * Writes a sheet of pairs. `row` points to `count` numbers (not bytes), u then y of each pair, `buffer` to `length` bytes. Answers VI_WRITTEN, and then
+ * the buffer is a sheet that vi_sheet accepts: the header, the pairs from offset 16 on, and straight after them the result block, all zeros. What the
+ * buffer held before does not matter. Otherwise answers one of 51 to 53 and leaves every byte as it was. The numbers of a pair are any numbers of 32
+ * bits: whether they are those of an oil is asked when the sheet is worked.
+ * Two written sheets have the same bytes exactly when they have the same pairs, in the same order.
+ */
+uint32_t vi_write_sheet(const uint32_t *row, size_t count, uint8_t *buffer, size_t length);
 
 /*
  * The viscosity-gravity constant of an oil, by formulas 1 and 2 of INSO 21904:2016 (after ASTM D2501), with G the density at 15 °C in g/ml, V and

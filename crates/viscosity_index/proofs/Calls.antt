@@ -10,6 +10,8 @@ use Rattle.std.specs.Prelude.{Result}
 use Rattle.sheet.specs.declared.refusal.Refusal.{Refusal}
 use Rattle.sheet.specs.Sheet.{sheet_refusal, sheet_answer_of, sheet_number_of}
 use Rattle.sheet.proofs.Worked.{number_of_answer}
+use Rattle.sheet_writer.specs.Questions.{writing_refusal}
+use Rattle.sheet_writer.specs.RightWriting.{RightWriting}
 use Rattle.viscosity_index.specs.PairCall.{not_a_record, pair_number, record_after, PairCall, NoRecord}
 
 -- a record of another length: its number, and the record as it was
@@ -32,3 +34,12 @@ filled u y number lent after {a} h alone right bytes same = record {
 pub sheet_number : (before : List ℕ) {number : ℕ} {a : Result ℕ Refusal} → number ≡ sheet_number_of a → a ≡ sheet_answer_of before
     → number ≡ sheet_refusal before
 sheet_number before e f = e ∙ ap sheet_number_of f ∙ number_of_answer before
+
+-- the number of the answer to a writing, and that it is right
+pub number_of_writing : (row before after : List ℕ) {number answered : ℕ} → number ≡ answered → RightWriting row before after answered
+    → number ≡ writing_refusal row (length before)
+number_of_writing row before after e r = e ∙ r.number_is
+
+pub right_writing : (row before after : List ℕ) {number answered : ℕ} → number ≡ answered → RightWriting row before after answered
+    → RightWriting row before after number
+right_writing row before after e r = rw e r

@@ -3,13 +3,16 @@
 // memories, each by itself.
 #![tactic(auto)]
 
-ghost use Rattle.std.specs.Prelude.{◌≡◌};
+ghost use Rattle.std.specs.Prelude.{◌≡◌, length};
 ghost use Rattle.gravity_constant.specs.declared.questions.Temperature.TheVariants.{At40, At100};
 ghost use Rattle.constant_row.specs.ConstantCall.{row_number, row_after, ConstantCall};
 ghost use Rattle.span_row.specs.SpanCall as span;
 ghost use Rattle.span_row.specs.SpanCall.{SpanCall};
 ghost use Rattle.sheet.specs.Sheet.{sheet_refusal, sheet_after, sheet_number_of};
 ghost use Rattle.sheet.specs.Demand3.{Demand3};
+ghost use Rattle.sheet_writer.specs.Questions.{writing_refusal};
+ghost use Rattle.sheet_writer.specs.Writing.{buffer_after};
+ghost use Rattle.sheet_writer.specs.RightWriting.{RightWriting};
 ghost use Rattle.tray_calls.specs.TrayCalls.{put_number, tray_put, record_put, take_number, tray_taken, pair_taken, record_taken, summary_number, summary_after};
 ghost use Rattle.viscosity_index.specs.PairCall.{pair_number, record_after, PairCall};
 
@@ -22,6 +25,9 @@ const NOT_A_RECORD: u32 = 5;
 
 // What the sheet call answers where no question refuses.
 const ACCEPTED: u32 = 0;
+
+// What the writing call answers where none does.
+const WRITTEN: u32 = 0;
 
 // The answer to a pair, as one record. A record that is not 16 bytes is left as it is, and 5 is answered.
 #[unsafe(no_mangle)]
@@ -49,6 +55,20 @@ pub extern "C" fn vi_sheet(sheet: &mut [u8]) -> u32
     match sheet::work_sheet(sheet) {
         Err(refusal) => u32::from(u8::from(refusal)),
         Ok(_) => ACCEPTED,
+    }
+}
+
+// Writes the sheet of a row of numbers, u then y of each pair, into a buffer that is just as long. A refused writing leaves the buffer as it is.
+#[unsafe(no_mangle)]
+#[tactic(auto, using(crate::proofs::Calls::number_of_writing, crate::proofs::Calls::right_writing))]
+pub extern "C" fn vi_write_sheet(row: &[u32], buffer: &mut [u8]) -> u32
+    ensures number { result ≡ writing_refusal row.now (length buffer.old) }
+    ensures bytes { buffer.new ≡ buffer_after row.now buffer.old }
+    ensures right { RightWriting row.now buffer.old buffer.new result }
+{
+    match sheet_writer::write_sheet(row, buffer) {
+        Err(refusal) => u32::from(u8::from(refusal)),
+        Ok(()) => WRITTEN,
     }
 }
 
