@@ -1,10 +1,12 @@
 // All pairs and sheets of document 01's 'Pairs and sheets to try', with exactly a half as change request #106 has it, constants of change request #101 on both
-// sides of each limit and at values worked by hand, spans of #107, and a tray of change requests #102, #104 and #105 from empty to full, through the public
-// operations: each line names an example and what the document says of it, and ends in "ok" where the operation answers just that, in "WRONG" where it does not.
+// sides of each limit and at values worked by hand, writings of #108, spans of #107, and a tray of change requests #102, #104 and #105 from empty to full, through
+// the public operations: each line names an example and what the document says of it, and ends in "ok" where the operation answers just that, in "WRONG" where it
+// does not.
 #![tactic(auto)]
 
 mod spans;
 mod trays;
+mod writings;
 
 ghost use Rattle.std.specs.Prelude.{◌<◌};
 ghost use Rattle.sheet.specs.Sheet.{header_size};
@@ -56,7 +58,7 @@ fn constant_refused(t: Temperature, viscosity: u32, density: u32, number: u8) ->
 }
 
 // A sheet that is a header and nothing else: n 0, offsets 16 and 16, total 16.
-fn header_alone() -> [u8; HEADER_SIZE] {
+pub fn header_alone() -> [u8; HEADER_SIZE] {
     [0, 0, 0, 0, 16, 0, 0, 0, 16, 0, 0, 0, 16, 0, 0, 0]
 }
 
@@ -324,6 +326,7 @@ fn main(rt: HostRuntime) -> io::Result<()> {
     constants_at_40(&rt)?;
     constants_at_100(&rt)?;
     refused_constants(&rt)?;
+    writings::writings(&rt)?;
     spans::spans(&rt)?;
     trays::trays(&rt)
 }
