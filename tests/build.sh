@@ -39,7 +39,12 @@ lib) echo proved; cp "$work/makes" "out/lib\$(basename "\$PWD").a" ;;
 *) exit 2 ;;
 esac
 END
-chmod +x "$work/bin/rt"
+cat >"$work/bin/gcc" <<END
+#!/bin/sh
+echo "gcc \$*" | sed 's/so\.[0-9]*/so.N/' >>"$work/calls"
+[ ! -e "$work/fails" ] && cp "$work/makes" "\$3"
+END
+chmod +x "$work/bin/rt" "$work/bin/gcc"
 PATH=$work/bin:$PATH
 echo 'a kit' >"$work/kit"
 echo one >"$work/makes"
@@ -69,6 +74,31 @@ calls "a program that does not build, before a library" 1 'vi_work run ' vi_work
 holds "what was there is left" test "$(cat "$archive" target/bin/vi_work)" = $'two\none'
 rm "$work/fails"
 calls "the library, again" 0 'viscosity_index lib ' viscosity_index
+shared=target/shared/libviscosity_index.so
+linking="gcc -shared -o $shared.N -Wl,--whole-archive $archive -Wl,--no-whole-archive "
+calls "the shared library" 0 "$linking" shared
+holds "$shared is there" cmp -s "$work/makes" "$shared"
+calls "the shared library of the same archive" 0 '' shared
+echo four >"$work/makes"
+echo '// more' >>crates/viscosity_index/src/lib.rt
+calls "the shared library of another archive" 0 "viscosity_index lib $linking" shared
+holds "the shared library is replaced" cmp -s "$work/makes" "$shared"
+touch "$work/fails"
+rm "$shared"
+calls "a shared library that is not linked" 1 "$linking" shared
+holds "it is not there" test ! -e "$shared"
+rm "$work/fails"
+calls "the shared library, again" 0 "$linking" shared
+cat >"$work/bin/cp" <<END
+#!/bin/sh
+case \$2 in target/*) exit 1 ;; *) exec $(command -v cp) "\$@" ;; esac
+END
+chmod +x "$work/bin/cp"
+echo five >"$work/makes"
+echo '// more' >>crates/viscosity_index/src/lib.rt
+calls "an archive that cannot be stored" 1 'viscosity_index lib ' shared
+rm "$work/bin/cp"
+calls "the archive, again" 0 "viscosity_index lib $linking" shared
 calls "no such name" 2 '' vi_other
 holds "the usage" grep -q '^build \[NAME \.\.\]' "$work/err"
 cd "$work" || exit 1
@@ -76,7 +106,7 @@ ln -s top/tools/build linked
 : >"$work/calls"
 holds "a link to it, from another folder" bash -c '"$0" vi_work >/dev/null 2>&1' "$work/linked"
 holds "it works in its own repository" test "$(cat "$work/calls")" = 'vi_work run'
-holds "no other files are in target/" test "$(cd top && find target -type f | sort | tr '\n' ' ')" = "target/bin/vi_print target/bin/vi_work $archive $archive.from "
+holds "no other files are in target/" test "$(cd top && find target -type f | sort | tr '\n' ' ')" = "target/bin/vi_print target/bin/vi_work $shared $archive $archive.from "
 
 [ "$bad" -eq 0 ] && echo "build: ok, $checks checks"
 exit "$bad"

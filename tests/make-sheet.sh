@@ -1,7 +1,9 @@
 #!/usr/bin/env bash
-# samples/make-sheet: the sheet of its numbers and of its lines, and what it does not take, with the pair or the line.
+# samples/make-sheet: the sheet of its numbers and of its lines, and what it does not take, with the pair or the line; and how it comes by the library.
 set -u
 cd "$(dirname "$0")/.." || exit 1
+unset VI_LIBRARY
+tools/build shared >/dev/null || { echo "make-sheet: FAILED: tools/build shared"; exit 1; }
 work=$(mktemp -d)
 trap 'rm -rf "$work"' EXIT
 checks=0
@@ -55,6 +57,46 @@ grep -q '^make-sheet \[U Y\]\.\.\.: ' "$work/out" || { echo "make-sheet, --help:
 checks=$((checks + 1))
 said=$(samples/make-sheet 1 2 2>&1 >/dev/full) && { echo "make-sheet, a full disk: status 0"; bad=1; }
 [ "$said" = "make-sheet: No space left on device" ] || { echo "make-sheet, a full disk: $said"; bad=1; }
+
+# ---- the library, in a copy of the scripts with a tools/build of this test's own
+
+real=$PWD/target/shared/libviscosity_index.so
+top=$work/top
+python=$(python3 -c 'import sys; print(sys.executable)')
+mkdir -p "$top/samples" "$top/tools" "$work/with-rt" "$work/without"
+cp samples/make-sheet samples/writer.py "$top/samples"
+printf '#!/bin/sh\n' | tee "$work/with-rt/rt" >"$top/tools/build"
+chmod +x "$work/with-rt/rt" "$top/tools/build"
+
+# makes WHAT STATUS ERR FOLDER BUILD: the exit status and a pattern of a line of standard error, empty for nothing said, where the commands are those of
+# FOLDER and BUILD is what tools/build does; where the status is 0, the three pairs are written.
+makes() {
+    local what=$1 status=$2 err=$3 got
+    printf '#!/bin/sh\nPATH=/usr/bin:/bin\n%s\n' "$5" >"$top/tools/build"
+    checks=$((checks + 1))
+    PATH=$work/$4 "$python" "$top/samples/make-sheet" 73300 8860 22830 5050 20000 1999 >"$work/out" 2>"$work/err"
+    got=$?
+    if [ "$got" -ne "$status" ] || ! grep -q -e "$err" <(cat "$work/err"; echo) || { [ -z "$err" ] && [ -s "$work/err" ]; }; then
+        echo "make-sheet, $what: status $got, said: $(tail -n 1 "$work/err" | cut -c 1-200)"
+        bad=1
+    fi
+    [ "$status" -ne 0 ] || same "$what" samples/three.sheet
+}
+built="cd '$top'; mkdir -p target/shared; cp '$real' target/shared"
+
+makes "no kit, and no library" 1 'rt, .* is not on the path; it has to be' without false
+makes "a library that cannot be built" 1 '^why not$' with-rt 'echo why not; exit 1'
+rm -rf "$top/target"
+makes "the first time" 0 'proving and building the library .* takes some minutes' with-rt "$built"
+makes "the second time" 0 '' with-rt "$built"
+makes "no kit" 0 'rt, .* is not on the path: the library is used as it is' without false
+makes "a library that no longer builds" 1 'the library could not be built' with-rt false
+export VI_LIBRARY=$real
+makes "a library that is named" 0 '' without false
+VI_LIBRARY=$work/none
+makes "no library of that name" 1 "/none is no library that can be used: " without false
+VI_LIBRARY=$work/out
+makes "a file that is no library" 1 "/out is no library that can be used: " without false
 
 [ $bad -eq 0 ] && echo "make-sheet: ok, $checks checks"
 exit $bad

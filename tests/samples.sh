@@ -4,6 +4,7 @@
 # are seen.
 set -u
 cd "$(dirname "$0")/.." || exit 1
+unset VI_LIBRARY
 work=$(mktemp -d)
 trap 'rm -rf "$work"' EXIT
 
@@ -25,6 +26,9 @@ check() {
 check samples && cmp samples/three.sheet crates/vi_print/stdin && cmp samples/three.sheet crates/vi_work/stdin || exit 1
 sheets=$count
 
+# The copies use the library that was built for the samples.
+export VI_LIBRARY=$PWD/target/shared/libviscosity_index.so
+
 # passes WHAT, fails WHAT: the copy of samples/, as it is now.
 copy=$work/samples
 cp -r samples "$copy"
@@ -33,7 +37,7 @@ fails() { ! check "$copy" >/dev/null 2>&1 || { echo "samples: not refused, $1"; 
 
 printf 'any bytes' >"$copy/own.sheet"
 passes "a user's own file in samples/"
-sed -i 's/^SAMPLES = {$/&\n    "more.sheet": sheet([(46000, 6800)]),/' "$copy/make"
+sed -i 's/^SAMPLES = {$/&\n    "more.sheet": write_sheet([(46000, 6800)]),/' "$copy/make"
 fails "one sample more that is not written"
 "$copy/make"
 fails "one sample more without its line in README.md"
