@@ -1,29 +1,13 @@
 /* The sheets: a model of document 01's sheet operation, and buffers of every
    kind that are worked by the library and compared with it byte for byte. */
 #include "compare.h"
+#include "sheets.h"
 
 #include <string.h>
 
-enum { HEADER = 16, PAIR = 8, COUNT_GREATEST = 2000 };
-enum { AT_COUNT = 0, AT_PAIRS = 4, AT_RESULTS = 8, AT_TOTAL = 12 };
-
-static uint32_t get(const uint8_t *b)
-{
-    return (uint32_t)b[0] + 256u * b[1] + 65536u * b[2] + 16777216u * b[3];
-}
-
-static void put(uint8_t *b, uint32_t v)
-{
-    b[0] = v % 256;
-    b[1] = v / 256 % 256;
-    b[2] = v / 65536 % 256;
-    b[3] = (uint8_t)(v / 16777216);
-}
-
 /* ---- the model ---- */
 
-/* The number of the first question that the sheet fails, 0 if none. */
-static uint32_t sheet_question(const uint8_t *s, uint64_t length)
+uint32_t sheet_question(const uint8_t *s, uint64_t length)
 {
     if (length < HEADER)
         return 11;
@@ -41,16 +25,13 @@ static uint32_t sheet_question(const uint8_t *s, uint64_t length)
     return apart ? 0 : 16;
 }
 
-/* The sheet as it must be after the call: s is changed to it. The records are
-   those of the pair call, each of them checked. */
-static void work_model(uint8_t *s)
+void work_sheet(uint8_t *s)
 {
     uint32_t n = get(s + AT_COUNT), pairs = get(s + AT_PAIRS), results = get(s + AT_RESULTS);
     for (uint32_t i = 0; i < n; i++) {
         uint32_t u = get(s + pairs + PAIR * i), y = get(s + pairs + PAIR * i + 4);
         struct record r = check_pair(u, y);
         bytes_of_record(&r, s + results + RECORD * i);
-        tally.records++;
     }
 }
 
@@ -84,7 +65,7 @@ static void check_sheet(const uint8_t *sheet, size_t length)
     uint32_t number = sheet_question(sheet, length);
     now_sheet(tally.sheets, sheet, length);
     if (number == 0)
-        work_model(model);
+        work_sheet(model);
     uint8_t *frame = last_bytes(BEFORE + length);
     memset(frame, 0x5a, BEFORE);
     memcpy(frame + BEFORE, sheet, length);
@@ -98,6 +79,7 @@ static void check_sheet(const uint8_t *sheet, size_t length)
     tally.sheets++;
     tally.sheet_refused[number]++;
     tally.accepted += number == 0;
+    tally.records += number == 0 ? get(sheet + AT_COUNT) : 0;
 }
 
 /* ---- sheets of every kind ---- */
