@@ -8,18 +8,48 @@
 #include <sys/mman.h>
 #include <unistd.h>
 
-enum { BESIDE = 64 };
+enum { BESIDE = 64, STEPS = 16 };
 
-void make_room(struct lent *m, const char *name)
+static _Noreturn void no_memory(void)
+{
+    printf("compare: FAILED: no memory\n");
+    exit(1);
+}
+
+static size_t whole_pages(size_t size)
 {
     size_t page = (size_t)sysconf(_SC_PAGESIZE);
-    uint8_t *pages = mmap(NULL, page + LENT_ROOM + page, PROT_NONE, MAP_PRIVATE | MAP_ANONYMOUS, -1, 0);
-    if (pages == MAP_FAILED || mprotect(pages + page, LENT_ROOM, PROT_READ | PROT_WRITE) != 0) {
-        printf("compare: FAILED: no memory\n");
-        exit(1);
-    }
+    return (size + page - 1) / page * page;
+}
+
+void make_room(struct lent *m, const char *name, size_t most, size_t behind)
+{
+    size_t before = whole_pages(1);
     m->name = name;
-    m->room = pages + page;
+    m->room_size = whole_pages(BESIDE + STEPS * sizeof(uint64_t) + most + BESIDE);
+    m->wanted = malloc(m->room_size);
+    uint8_t *pages = mmap(NULL, before + m->room_size + whole_pages(behind + 1), PROT_NONE,
+        MAP_PRIVATE | MAP_ANONYMOUS | MAP_NORESERVE, -1, 0);
+    if (m->wanted == NULL || pages == MAP_FAILED)
+        no_memory();
+    m->room = pages + before;
+    unlock_lent(m);
+}
+
+static void protect(const struct lent *m, int how)
+{
+    if (mprotect(m->room, m->room_size, how) != 0)
+        no_memory();
+}
+
+void lock_lent(const struct lent *m)
+{
+    protect(m, PROT_READ);
+}
+
+void unlock_lent(const struct lent *m)
+{
+    protect(m, PROT_READ | PROT_WRITE);
 }
 
 static void fill(uint8_t *bytes, size_t length)
@@ -35,18 +65,36 @@ void keep_lent(struct lent *m)
     memcpy(m->wanted, m->from, m->length);
 }
 
-void lend(struct lent *m, size_t size, size_t step)
+/* Lends them there. */
+static void lend_at(struct lent *m, uint8_t *at, size_t size)
 {
-    uint8_t *end = m->room + LENT_ROOM;
-    uint64_t chosen = random64();
+    uint8_t *end = m->room + m->room_size;
     m->size = size;
-    m->bytes = chosen % 4 == 0 ? m->room : chosen % 4 == 1 ? end - size
-                                                             : m->room + BESIDE + (chosen >> 32) % 16 * step;
-    m->from = m->bytes - m->room < BESIDE ? m->room : m->bytes - BESIDE;
-    uint8_t *to = end - (m->bytes + size) < BESIDE ? end : m->bytes + size + BESIDE;
+    m->bytes = at;
+    m->from = at - m->room < BESIDE ? m->room : at - BESIDE;
+    uint8_t *to = end - (at + size) < BESIDE ? end : at + size + BESIDE;
     m->length = (size_t)(to - m->from);
     fill(m->from, m->length);
     keep_lent(m);
+}
+
+void lend_last(struct lent *m, size_t size)
+{
+    lend_at(m, m->room + m->room_size - size, size);
+}
+
+void lend(struct lent *m, size_t size, size_t step)
+{
+    uint64_t chosen = random64();
+    if (chosen % 4 == 1)
+        lend_last(m, size);
+    else
+        lend_at(m, chosen % 4 == 0 ? m->room : m->room + BESIDE + (chosen >> 32) % STEPS * step, size);
+}
+
+void *lent_place(const struct lent *m)
+{
+    return m->size == 0 && random64() & 1 ? NULL : m->bytes;
 }
 
 void put_lent(struct lent *m, const void *bytes, size_t size)

@@ -8,14 +8,15 @@ const struct sizes right_sizes = { TRAY, RECORD, SAMPLE_PAIR, SUMMARY_ROW };
 
 /* ---- what is lent ---- */
 
+enum { MOST_LENT = 16384 };
 static struct lent tray_lent, record_lent, pair_lent, row_lent;
 
 void make_tray_rooms(void)
 {
-    make_room(&tray_lent, "tray");
-    make_room(&record_lent, "record");
-    make_room(&pair_lent, "pair");
-    make_room(&row_lent, "summary");
+    make_room(&tray_lent, "tray", MOST_LENT, 0);
+    make_room(&record_lent, "record", MOST_LENT, 0);
+    make_room(&pair_lent, "pair", MOST_LENT, 0);
+    make_room(&row_lent, "summary", MOST_LENT, 0);
 }
 
 void move_tray(void)
@@ -53,23 +54,18 @@ static void lend_all(const struct tested *t, const struct call *c)
     lend_tray(t, c, t->in_place);
 }
 
-/* Of no bytes there may be no place. */
-static void *pointer(const struct lent *m)
-{
-    return m->size == 0 && random64() & 1 ? NULL : m->bytes;
-}
-
 static uint32_t call_library(const struct call *c)
 {
-    uint32_t *tray = pointer(&tray_lent);
+    uint32_t *tray = lent_place(&tray_lent);
     const struct sizes *s = &c->sizes;
     switch (c->kind) {
     case PUT:
-        return vi_tray_put(tray, s->tray, c->number, c->u, c->y, pointer(&record_lent), s->record);
+        return vi_tray_put(tray, s->tray, c->number, c->u, c->y, lent_place(&record_lent), s->record);
     case TAKE:
-        return vi_tray_take(tray, s->tray, c->number, pointer(&pair_lent), s->pair, pointer(&record_lent), s->record);
+        return vi_tray_take(tray, s->tray, c->number, lent_place(&pair_lent), s->pair, lent_place(&record_lent),
+            s->record);
     default:
-        return vi_tray_summary(tray, s->tray, pointer(&row_lent), s->row);
+        return vi_tray_summary(tray, s->tray, lent_place(&row_lent), s->row);
     }
 }
 
