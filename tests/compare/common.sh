@@ -37,7 +37,7 @@ build() {
 compile_parts() {
     local part
     parts=()
-    for part in harness lent pairs sheets constants tray_call tray_numbers tray_kept trays span_call spans oil constant tray; do
+    for part in harness lent pairs sheets constants tray_call tray_numbers tray_kept trays span_call spans write_call writes oil constant tray; do
         gcc "${flags[@]}" -c "$root/tests/compare/$part.c" -o "$work/$part.o" || die "compiling $part.c"
         parts+=("$work/$part.o")
     done

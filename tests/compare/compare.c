@@ -1,8 +1,8 @@
 /* Compares the library, through its C calls, with the implementation of document
    01 in oil.c, the model of a sheet in sheets.c, the constant in constant.c, the
-   tray in tray.c and the span in span_call.c.
+   tray in tray.c, the span in span_call.c and the written sheet in write_call.c.
 
-     compare [--pairs N] [--sheets M] [--constants C] [--powers P] [--trays T] [--spans W] [--seed S]
+     compare [--pairs N] [--sheets M] [--constants C] [--powers P] [--trays T] [--spans W] [--writes V] [--seed S]
 
    Ends at the first difference with exit code 1 and a line that names it. */
 #include "compare.h"
@@ -26,17 +26,25 @@ static uint64_t option(int argc, char **argv, const char *name, uint64_t otherwi
 static bool options_known(int argc, char **argv)
 {
     static const char *const names[] = { "--pairs", "--sheets", "--constants", "--powers", "--trays", "--spans",
-        "--seed" };
+        "--writes", "--seed" };
     if (argc % 2 == 0)
         return false;
     for (int i = 1; i < argc; i += 2) {
         bool known = false;
-        for (int j = 0; j < 7; j++)
+        for (int j = 0; j < 8; j++)
             known = known || strcmp(argv[i], names[j]) == 0;
         if (!known)
             return false;
     }
     return true;
+}
+
+static uint64_t least(const uint64_t *of, size_t count)
+{
+    uint64_t found = UINT64_MAX;
+    for (size_t i = 0; i < count; i++)
+        found = of[i] < found ? of[i] : found;
+    return found;
 }
 
 static void print_tally(void)
@@ -76,12 +84,9 @@ static void print_trays(void)
     printf("a pair's question with its number held %" PRIu64 ", with 64 held %" PRIu64 "; 31 with 64 held %" PRIu64
         "; damaged trays %" PRIu64 " calls; stored and loaded %" PRIu64 "\n", tally.pair_before_held,
         tally.pair_before_full, tally.held_before_full, tally.damaged_calls, tally.stored);
-    uint64_t fewest = UINT64_MAX;
-    for (int i = 0; i <= 64; i++)
-        fewest = tally.summaries_at[i] < fewest ? tally.summaries_at[i] : fewest;
     printf("summaries of an empty tray %" PRIu64 ", of a full one %" PRIu64 ", at each fill at least %" PRIu64
-        "; sum of indices from %" PRId64 " to %" PRId64 "\n", tally.summaries_at[0], tally.summaries_at[64], fewest,
-        tally.sum_least, tally.sum_greatest);
+        "; sum of indices from %" PRId64 " to %" PRId64 "\n", tally.summaries_at[0], tally.summaries_at[64],
+        least(tally.summaries_at, 65), tally.sum_least, tally.sum_greatest);
 }
 
 static void print_numbers(void)
@@ -111,14 +116,12 @@ static void print_spans(void)
     static const int questions[] = { 1, 2, 3, 4, 5, 41, 42 };
     for (int i = 0; i < 7; i++)
         printf(" %d: %" PRIu64 "%s", questions[i], tally.span_refused[questions[i]], i < 6 ? "," : "");
-    uint64_t beyond = UINT64_MAX, both = UINT64_MAX;
-    for (int i = 0; i < SPAN_QUESTIONS; i++) {
-        beyond = tally.just_beyond[i] < beyond ? tally.just_beyond[i] : beyond;
+    uint64_t both = UINT64_MAX;
+    for (int i = 0; i < SPAN_QUESTIONS; i++)
         for (int j = i + 1; j < SPAN_QUESTIONS; j++)
             both = tally.both_refuse[i][j] < both ? tally.both_refuse[i][j] : both;
-    }
     printf("; by each but 5 just beyond its limit at least %" PRIu64 ", where another refuses too at least %" PRIu64
-        "\n", beyond, both);
+        "\n", least(tally.just_beyond, SPAN_QUESTIONS), both);
     printf("spans answered:");
     for (int i = 0; i < SPAN_KINDS; i++)
         printf(" %s %" PRIu64 "%s", span_kinds[i], tally.of_kind[i], i + 1 < SPAN_KINDS ? ";" : "\n");
@@ -126,11 +129,30 @@ static void print_spans(void)
         tally.span_greatest);
 }
 
+static void print_writes(void)
+{
+    printf("writings %" PRIu64 ": written %" PRIu64 ", refused by question 51: %" PRIu64 ", 52: %" PRIu64 ", 53: %"
+        PRIu64, tally.writes, tally.write_refused[0], tally.write_refused[51], tally.write_refused[52],
+        tally.write_refused[53]);
+    printf("; by each alone at least %" PRIu64 ", where another refuses too at least %" PRIu64,
+        least(tally.alone_refuses, WRITE_QUESTIONS), least(tally.two_refuse, WRITE_QUESTIONS * WRITE_QUESTIONS));
+    printf("; each count of numbers to 4,002 with its size, a byte short and a byte long at least %" PRIu64
+        "; sheets at each place of 16 bytes at least %" PRIu64 "\n", least(tally.swept, SWEPT_COUNTS * SWEPT_SIZES),
+        least(tally.written_at, ALIGNMENTS));
+    printf("writings:");
+    for (int i = 0; i < WRITE_KINDS; i++)
+        printf(" %s %" PRIu64 "%s", write_kinds[i], tally.of_write_kind[i], i + 1 < WRITE_KINDS ? ";" : "\n");
+    printf("pairs worked in written sheets: A %" PRIu64 ", B settled %" PRIu64 ", B near %" PRIu64
+        ", refused by question", tally.worked_by[BY_A], tally.worked_by[B_SETTLED], tally.worked_by[B_NEAR]);
+    for (int i = 1; i <= 4; i++)
+        printf(" %d: %" PRIu64 "%s", i, tally.worked_refused[i], i < 4 ? "," : "\n");
+}
+
 int main(int argc, char **argv)
 {
     if (!options_known(argc, argv)) {
         fprintf(stderr, "usage: compare [--pairs N] [--sheets M] [--constants C] [--powers P] [--trays T] [--spans W]"
-            " [--seed S]\n");
+            " [--writes V] [--seed S]\n");
         return 2;
     }
     setvbuf(stdout, NULL, _IOLBF, 0);
@@ -145,15 +167,17 @@ int main(int argc, char **argv)
     compare_constants(constants, option(argc, argv, "--powers", 4));
     compare_trays(option(argc, argv, "--trays", 2000000));
     compare_spans(option(argc, argv, "--spans", 1500000));
+    compare_writes(option(argc, argv, "--writes", 400000));
     print_tally();
     print_constants();
     print_trays();
     print_numbers();
     print_kept();
     print_spans();
+    print_writes();
     printf("compare: passed: %" PRIu64 " pairs, %" PRIu64 " sheets, %" PRIu64 " constants, %" PRIu64
-        " calls with trays and %" PRIu64 " spans agree", tally.pairs, tally.sheets, tally.constants, tally.tray_calls,
-        tally.spans);
+        " calls with trays, %" PRIu64 " spans and %" PRIu64 " writings agree", tally.pairs, tally.sheets,
+        tally.constants, tally.tray_calls, tally.spans, tally.writes);
     printf(", seed %" PRIu64 ", %ld s\n", seed, (long)(time(NULL) - start));
     return 0;
 }

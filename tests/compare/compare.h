@@ -31,6 +31,7 @@ void now_sheet(uint64_t which, const uint8_t *bytes, size_t length);
 void now_constant(int degrees, uint32_t viscosity, uint32_t density, const int32_t *row);
 void now_tray(const char *call, uint32_t number, int held, uint64_t list);
 void now_span(const struct limits *s, const int32_t *row);
+void now_writing(const uint32_t *row, size_t count, size_t length);
 _Noreturn void fail(const char *what, const uint8_t *record);
 void progress(const char *name, uint64_t done, uint64_t of);
 
@@ -40,6 +41,9 @@ int32_t *last_numbers(size_t count);
 
 /* The questions to a span, and the kinds of answered spans that have to be met. */
 enum { SPAN_QUESTIONS = 6, SPAN_KINDS = 20 };
+/* Likewise of writings, and for each count of numbers up to two more than 2,000 pairs
+   have: the right size of the buffer, a byte short and a byte long. */
+enum { WRITE_QUESTIONS = 3, WRITE_KINDS = 22, SWEPT_COUNTS = 4003, SWEPT_SIZES = 3, ALIGNMENTS = 16 };
 
 struct tally {
     uint64_t pairs, refused[5], a, settled, near, sheets, accepted, sheet_refused[17], records;
@@ -69,6 +73,12 @@ struct tally {
     uint64_t spans, span_refused[43], just_beyond[SPAN_QUESTIONS], both_refuse[SPAN_QUESTIONS][SPAN_QUESTIONS];
     uint64_t of_kind[SPAN_KINDS], inside;
     int64_t span_least, span_greatest;
+    /* of writings: by the number answered; by the only question that refuses, by each
+       two that do; by kind; by count, each with its sizes; by the alignment of the
+       written buffer; pairs of written sheets that are worked, by method and by number */
+    uint64_t writes, write_refused[54], alone_refuses[WRITE_QUESTIONS], two_refuse[WRITE_QUESTIONS * WRITE_QUESTIONS];
+    uint64_t of_write_kind[WRITE_KINDS], swept[SWEPT_COUNTS * SWEPT_SIZES], written_at[ALIGNMENTS];
+    uint64_t worked_by[4], worked_refused[5];
 };
 extern struct tally tally;
 
@@ -98,5 +108,8 @@ void compare_trays(uint64_t wanted);
 void compare_spans(uint64_t wanted);
 /* What the kinds of spans are called. */
 extern const char *const span_kinds[SPAN_KINDS];
+/* So many calls that write a sheet, likewise; of none asked for, none is made. */
+void compare_writes(uint64_t wanted);
+extern const char *const write_kinds[WRITE_KINDS];
 
 #endif

@@ -59,7 +59,9 @@ static uint32_t now_number;
 static int now_held;
 static uint64_t now_list;
 static struct limits now_limits;
-static bool now_spans;
+static bool now_spans, now_writes;
+static const uint32_t *now_numbers;
+static size_t now_count, now_room;
 
 void now_pair(uint32_t u, uint32_t y)
 {
@@ -100,6 +102,15 @@ void now_span(const struct limits *s, const int32_t *row)
     now_pair(0, 0);
 }
 
+void now_writing(const uint32_t *row, size_t count, size_t length)
+{
+    now_numbers = row;
+    now_count = count;
+    now_room = length;
+    now_writes = true;
+    now_pair(0, 0);
+}
+
 static void print_bytes(const char *name, const uint8_t *bytes, size_t length)
 {
     printf("  %s:", name);
@@ -126,9 +137,23 @@ static void print_span(void)
         printf("  pair inside: u %" PRIu32 " y %" PRIu32 "\n", now_u, now_y);
 }
 
+static void print_writing(void)
+{
+    printf("  writing of %zu numbers into %zu bytes, seed %" PRIu64 "\n  row:", now_count, now_room, seed);
+    for (size_t i = 0; i < now_count && i < 8; i++)
+        printf(" %" PRIu32, now_numbers[i]);
+    printf("\n");
+    if (now_u != 0 || now_y != 0)
+        printf("  pair: u %" PRIu32 " y %" PRIu32 "\n", now_u, now_y);
+}
+
 _Noreturn void fail(const char *what, const uint8_t *record)
 {
     printf("compare: FAILED: %s\n", what);
+    if (now_writes) {
+        print_writing();
+        exit(1);
+    }
     if (now_spans) {
         print_span();
         exit(1);
@@ -152,7 +177,7 @@ _Noreturn void fail(const char *what, const uint8_t *record)
 static void outside(int signal_number)
 {
     (void)signal_number;
-    static const char text[] = "compare: FAILED: the library reached past the bytes lent to it\n";
+    static const char text[] = "compare: FAILED: the library reached past the bytes lent to it, or wrote to a row\n";
     if (write(1, text, sizeof text - 1) < 0)
         _exit(2);
     _exit(1);

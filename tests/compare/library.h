@@ -1,6 +1,6 @@
 /* The C calls, declared here again so that nothing of the library's own header is
-   included: from document 01 and change requests #101 and #107, and those of the tray
-   (#102, #104 for the numbers of samples, #105 for the kept summary) from what the
+   included: from document 01 and change requests #101, #107 and #108, and those of the
+   tray (#102, #104 for the numbers of samples, #105 for the kept summary) from what the
    header says. How a tray is laid out the header alone says; tray.h has it again. */
 #ifndef LIBRARY_H
 #define LIBRARY_H
@@ -25,6 +25,10 @@ uint32_t vi_constant_100(uint32_t viscosity, uint32_t density, int32_t *row, siz
    the least and the greatest index; 41, 42 or 1 to 4 if refused, 5 unless count is
    2, both with the row untouched. */
 uint32_t vi_span(uint32_t u1, uint32_t u2, uint32_t y1, uint32_t y2, int32_t *row, size_t count);
+
+/* Writes the sheet of a row of pairs, u then y. Answers 51 to 53 for a refused writing,
+   with the buffer untouched, 0 for one that is made. */
+uint32_t vi_write_sheet(const uint32_t *row, size_t count, uint8_t *buffer, size_t length);
 
 /* A tray is 521 numbers. Put answers 0 with the record as vi_pair fills it; 1 to 4,
    31 or 32 if refused. Take answers 0 with u and y and the record; 33 if refused.
