@@ -1,18 +1,19 @@
 #!/usr/bin/env bash
 # Shows that the comparison can fail: each of these wrong libraries, made from
 # the real one by tests/compare/wrong.c, wrong_constants.c, wrong_trays.c,
-# wrong_numbers.c, wrong_kept.c and wrong_spans.c, must be noticed. The real one
-# must pass the same short run, and so must four that choose otherwise where
-# document 01 or the constant's request leaves the choice free, and one that finds
-# the span by a walk. Then every last digit of the table and of the two formulas,
-# one more and one less.
+# wrong_numbers.c, wrong_kept.c, wrong_spans.c and wrong_writes.c, must be noticed.
+# The real one must pass the same short run, and so must four that choose otherwise
+# where document 01 or the constant's request leaves the choice free, one that finds
+# the span by a walk, and a writer of our own. Then every last digit of the table and
+# of the two formulas, one more and one less.
 set -euo pipefail
 . "$(dirname "$0")/compare/common.sh"
 have_headers
 find_archive
-short=(--pairs 200000 --sheets 4000 --constants 400000 --powers 0 --trays 60000 --spans 120000)
-short_trays=(--pairs 0 --sheets 0 --constants 0 --powers 0 --trays 60000 --spans 0)
-short_spans=(--pairs 0 --sheets 0 --constants 0 --powers 0 --trays 0 --spans 120000)
+short=(--pairs 200000 --sheets 4000 --constants 400000 --powers 0 --trays 60000 --spans 120000 --writes 40000)
+short_trays=(--pairs 0 --sheets 0 --constants 0 --powers 0 --trays 60000 --spans 0 --writes 0)
+short_spans=(--pairs 0 --sheets 0 --constants 0 --powers 0 --trays 0 --spans 120000 --writes 0)
+short_writes=(--pairs 0 --sheets 0 --constants 0 --powers 0 --trays 0 --spans 0 --writes 40000)
 
 # In the order of the numbers that wrong.c gives them.
 wrong=(
@@ -258,6 +259,53 @@ wrong_spans=(
 # The number that follows: right.
 right_spans=("a walk over the pair calls, which the wrong ones start from")
 
+# Likewise, wrong_writes.c.
+wrong_writes=(
+    "52 asked before 51"
+    "53 asked before 51"
+    "53 asked before 52"
+    "51 answered 0"
+    "an odd row written without its last number"
+    "2,001 pairs written"
+    "2,000 pairs refused"
+    "a row of no pairs refused"
+    "a buffer a byte short taken"
+    "a buffer a byte long taken"
+    "the row's count taken in 16 bits"
+    "the row's count taken in 32 bits"
+    "the buffer's length taken in 16 bits"
+    "the buffer's length taken in 32 bits"
+    "a pair refused that is no oil"
+    "a refused writing that writes the header"
+    "a buffer a byte long written, though refused"
+    "a refused buffer cleared"
+    "a number read behind an odd row"
+    "the first number of a row of none read"
+    "the count of numbers in the header"
+    "the total one less"
+    "the result block before the pairs"
+    "the pair block at 0 by the header"
+    "the most significant byte first"
+    "y before u"
+    "the first pair written for all"
+    "the last pair left out"
+    "the last pair first"
+    "a pair like the one before it left out"
+    "numbers of pairs cut to 31 bits"
+    "numbers of pairs above 1,000,000,000 cut"
+    "the written result block left as found"
+    "the last byte of the result block left as found"
+    "the written sheet worked"
+    "a byte in front of the buffer changed"
+    "a byte behind the buffer changed"
+    "a buffer refused that is not aligned"
+    "the row cleared"
+    "the sheet written before"
+)
+
+# The number that follows: right.
+right_writes=("a writer of our own, which the wrong ones start from")
+
 build_compare sound
 "$work/sound" "${short[@]}" >"$work/out" 2>&1 || { cat "$work/out"; die "the real library fails the short run"; }
 
@@ -310,10 +358,20 @@ for i in "${!right_spans[@]}"; do
     "$work/right" "${short_spans[@]}" >"$work/out" 2>&1 || { cat "$work/out"; die "not let pass: ${right_spans[$i]}"; }
     echo "passes: ${right_spans[$i]}: $(sed -n 's/^\(spans [0-9]*: answered [0-9]*\).*/\1/p' "$work/out")"
 done
+writes=--wrap=vi_write_sheet
+for i in "${!wrong_writes[@]}"; do
+    must_notice wrong_writes.c $((i + 1)) "${wrong_writes[$i]}" "$writes" "${short_writes[@]}"
+done
+for i in "${!right_writes[@]}"; do
+    build_compare right -DWRONG=$((${#wrong_writes[@]} + i + 1)) "$root/tests/compare/wrong_writes.c" "-Wl,$writes"
+    "$work/right" "${short_writes[@]}" >"$work/out" 2>&1 || { cat "$work/out"; die "not let pass: ${right_writes[$i]}"; }
+    echo "passes: ${right_writes[$i]}: $(sed -n 's/^\(writings [0-9]*: written [0-9]*\).*/\1/p' "$work/out")"
+done
 # Needs no library: the wrong ones are our own with another table.
 from=$root/tests/compare
 build digits "$from"/{digits,harness,pairs,constants,oil,constant}.c
 "$work/digits" || die "a changed digit is not noticed"
 
-noticed=$((${#wrong[@]} + ${#wrong_constants[@]} + ${#wrong_trays[@]} + ${#wrong_numbers[@]} + ${#wrong_kept[@]} + ${#wrong_spans[@]}))
+noticed=$((${#wrong[@]} + ${#wrong_constants[@]} + ${#wrong_trays[@]} + ${#wrong_numbers[@]} + ${#wrong_kept[@]} + ${#wrong_spans[@]} +
+    ${#wrong_writes[@]}))
 echo "compare-bites: passed: $noticed wrong libraries noticed, the real one passes"
