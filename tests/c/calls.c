@@ -3,7 +3,7 @@
  * pairs, result blocks full of garbage, unaligned buffers, rows of every count that end where the memory ends, trays from empty to full and back,
  * with sample numbers over all 32 bits, stored, read-only and damaged, and a refresh where the places cannot be read. What a sheet, the row of a
  * span or a tray should hold after a call is put together here from what it held before and from vi_pair's records, the kept summary by a walk over
- * the places, and all of it is compared, with the bytes on either side of the buffer.
+ * the places, a written sheet from its row, and all of it is compared, with the bytes on either side of the buffer.
  */
 #define _DEFAULT_SOURCE
 #include "viscosity_index.h"
@@ -182,26 +182,40 @@ static void sheet_edges(void)
     sheet_is(3, 16, 20, 40, 40, VI_SHEET_RESULTS);
 }
 
-/* works n random pairs in blocks at these offsets; the bytes between are garbage, and so is the result block before the call */
-static void worked(uint32_t n, uint32_t pairs, uint32_t results, uint32_t total, unsigned step)
+static void any_pair(uint32_t i, uint32_t *u, uint32_t *y)
 {
-    uint8_t *sheet = room + GUARD + step, *wanted = kept + GUARD + step;
-    fill(room, sizeof room);
-    header(sheet, n, pairs, results, total);
-    for (uint32_t i = 0; i < n; i++) {
-        const uint32_t y = any() % 8 ? 2000 + any() % (i % 2 ? 20000 : 498001) : any();
-        const uint32_t u = any() % 8 ? y + any() % (i % 3 ? 1 + 20 * (y % 500001) : 1000000000) : any();
-        put32(sheet + pairs + i * VI_PAIR_SIZE + VI_PAIR_U, u);
-        put32(sheet + pairs + i * VI_PAIR_SIZE + VI_PAIR_Y, y);
-    }
+    *y = any() % 8 ? 2000 + any() % (i % 2 ? 20000 : 498001) : any();
+    *u = any() % 8 ? *y + any() % (i % 3 ? 1 + 20 * (*y % 500001) : 1000000000) : any();
+}
+
+/* works the sheet, which stands in `room` */
+static void is_worked(uint8_t *sheet)
+{
+    const uint32_t n = get32(sheet + VI_HEADER_COUNT), pairs = get32(sheet + VI_HEADER_PAIRS), results = get32(sheet + VI_HEADER_RESULTS);
+    uint8_t *wanted = kept + (sheet - room);
     memcpy(kept, room, sizeof room);
     for (uint32_t i = 0; i < n; i++) {
         const uint8_t *pair = sheet + pairs + i * VI_PAIR_SIZE;
         vi_pair(get32(pair + VI_PAIR_U), get32(pair + VI_PAIR_Y), wanted + results + i * VI_RECORD_SIZE, VI_RECORD_SIZE);
     }
-    const uint32_t got = vi_sheet(sheet, total);
+    const uint32_t got = vi_sheet(sheet, get32(sheet + VI_HEADER_TOTAL));
     check(got == VI_ACCEPTED, "a sheet of any shape", got, VI_ACCEPTED);
     check(memcmp(room, kept, sizeof room) == 0, "the records, and every byte outside the result block", n, n);
+}
+
+/* works n random pairs in blocks at these offsets; the bytes between are garbage, and so is the result block before the call */
+static void worked(uint32_t n, uint32_t pairs, uint32_t results, uint32_t total, unsigned step)
+{
+    uint8_t *sheet = room + GUARD + step;
+    fill(room, sizeof room);
+    header(sheet, n, pairs, results, total);
+    for (uint32_t i = 0; i < n; i++) {
+        uint32_t u, y;
+        any_pair(i, &u, &y);
+        put32(sheet + pairs + i * VI_PAIR_SIZE + VI_PAIR_U, u);
+        put32(sheet + pairs + i * VI_PAIR_SIZE + VI_PAIR_Y, y);
+    }
+    is_worked(sheet);
 }
 
 static void shapes(void)
@@ -882,6 +896,142 @@ static void span_row_counts(void)
     check(vi_span(73300, 73300, 8860, 8860, NULL, 0) == VI_SPAN_NOT_2, "no row of a span", 0, VI_SPAN_NOT_2);
 }
 
+/* ---- writings ---- */
+
+enum { PAIR_NUMBERS = 2, MOST_ROW = PAIR_NUMBERS * VI_MOST_PAIRS, BEYOND_ROW = 4 };
+static uint32_t numbers[MOST_ROW + BEYOND_ROW];
+
+/* what the header promises of the sheet of n pairs */
+static void put_sheet(uint8_t *sheet, const uint32_t *row, uint32_t n)
+{
+    memset(sheet, 0, VI_SHEET_SIZE(n));
+    header(sheet, n, VI_HEADER_SIZE, VI_HEADER_SIZE + VI_PAIR_SIZE * n, VI_SHEET_SIZE(n));
+    for (uint32_t i = 0; i < n; i++) {
+        put32(sheet + VI_HEADER_SIZE + VI_PAIR_SIZE * i + VI_PAIR_U, row[PAIR_NUMBERS * i]);
+        put32(sheet + VI_HEADER_SIZE + VI_PAIR_SIZE * i + VI_PAIR_Y, row[PAIR_NUMBERS * i + 1]);
+    }
+}
+
+/* the call's number, at each alignment; the sheet of the row, or every byte as it was */
+static void writing_is(const uint32_t *row, size_t count, size_t length, uint32_t number)
+{
+    for (unsigned step = 0; step < STEPS; step++) {
+        const size_t size = GUARD + step + length + GUARD;
+        uint8_t *buffer = room + GUARD + step;
+        fill(room, size);
+        memcpy(kept, room, size);
+        const uint32_t got = vi_write_sheet(row, count, buffer, length);
+        check(got == number, "the number of a writing", got, number);
+        if (number == VI_WRITTEN)
+            put_sheet(kept + GUARD + step, row, (uint32_t)(count / PAIR_NUMBERS));
+        check(memcmp(room, kept, size) == 0, "the buffer of a writing and the bytes beside it", length, number);
+    }
+}
+
+/* written, worked, and printed here as numbers */
+static void named_writing(void)
+{
+    static const uint32_t oils[] = {73300, 8860, 22830, 5050, 20000, 1999}, methods[] = {VI_METHOD_A, VI_METHOD_B_SETTLED, VI_METHOD_REFUSED};
+    static const uint32_t answers[] = {VI_ANSWERED, VI_ANSWERED, VI_Y_BELOW_LEAST}, indices[] = {92, 156, 0};
+    uint8_t sheet[VI_SHEET_SIZE(3)];
+    check(sizeof sheet == 88 && VI_SHEET_SIZE(0) == 16 && VI_SHEET_SIZE(1 + 1) == 64, "the sizes of sheets", sizeof sheet, 88);
+    check(VI_SHEET_SIZE(VI_MOST_PAIRS) == 48016, "the size of the longest sheet", VI_SHEET_SIZE(VI_MOST_PAIRS), 48016);
+    fill(sheet, sizeof sheet);
+    check(vi_write_sheet(oils, 6, sheet, sizeof sheet) == VI_WRITTEN, "a written sheet", 1, VI_WRITTEN);
+    check(vi_sheet(sheet, sizeof sheet) == VI_ACCEPTED, "a written sheet is accepted", 1, VI_ACCEPTED);
+    for (size_t i = 0; i < 3; i++) {
+        const uint8_t *pair = sheet + VI_HEADER_SIZE + VI_PAIR_SIZE * i, *record = sheet + get32(sheet + VI_HEADER_RESULTS) + VI_RECORD_SIZE * i;
+        check(get32(pair + VI_PAIR_U) == oils[2 * i] && get32(pair + VI_PAIR_Y) == oils[2 * i + 1], "a pair read back", get32(pair), oils[2 * i]);
+        check(record[VI_RECORD_NUMBER] == answers[i], "the number of a written pair", record[VI_RECORD_NUMBER], answers[i]);
+        check(record[VI_RECORD_METHOD] == methods[i], "the method of a written pair", record[VI_RECORD_METHOD], methods[i]);
+        check(get32(record + VI_RECORD_INDEX) == indices[i], "the index of a written pair", get32(record + VI_RECORD_INDEX), indices[i]);
+    }
+}
+
+/* both sides of every question, and which of several that fail gives its number */
+static void writing_edges(void)
+{
+    fill((uint8_t *)numbers, sizeof numbers);
+    const size_t longest = VI_SHEET_SIZE(VI_MOST_PAIRS), pair = VI_PAIR_SIZE + VI_RECORD_SIZE;
+    writing_is(numbers, MOST_ROW, longest, VI_WRITTEN);
+    writing_is(numbers, MOST_ROW, longest - 1, VI_BUFFER_NOT_SHEET);
+    writing_is(numbers, MOST_ROW, longest + 1, VI_BUFFER_NOT_SHEET);
+    writing_is(numbers, MOST_ROW, longest - pair, VI_BUFFER_NOT_SHEET);
+    writing_is(numbers, MOST_ROW, longest + pair, VI_BUFFER_NOT_SHEET);
+    writing_is(numbers, MOST_ROW - 1, longest, VI_ROW_ODD);
+    writing_is(numbers, MOST_ROW + 1, longest, VI_ROW_ODD);
+    writing_is(numbers, MOST_ROW + 1, longest + pair / 2, VI_ROW_ODD);
+    writing_is(numbers, MOST_ROW + 2, longest + pair, VI_ROW_TOO_LONG);
+    writing_is(numbers, MOST_ROW + 2, longest, VI_ROW_TOO_LONG);
+    writing_is(numbers, MOST_ROW + 3, longest + pair, VI_ROW_ODD);
+    writing_is(numbers, MOST_ROW + 3, 0, VI_ROW_ODD);
+    writing_is(numbers, MOST_ROW + 4, longest + 2 * pair, VI_ROW_TOO_LONG);
+    for (size_t count = 0; count < 10; count++)
+        for (size_t length = 0; length <= VI_SHEET_SIZE(5); length++) {
+            const uint32_t sized = length == VI_SHEET_SIZE(count / 2) ? VI_WRITTEN : VI_BUFFER_NOT_SHEET;
+            writing_is(numbers, count, length, count % 2 ? VI_ROW_ODD : sized);
+        }
+}
+
+/* where a count or a length is 0, there may be no place */
+static void writing_of_nothing(void)
+{
+    writing_is(NULL, 0, VI_SHEET_SIZE(0), VI_WRITTEN);
+    writing_is(NULL, 0, VI_SHEET_SIZE(0) - 1, VI_BUFFER_NOT_SHEET);
+    writing_is(NULL, 0, VI_SHEET_SIZE(1), VI_BUFFER_NOT_SHEET);
+    check(vi_write_sheet(NULL, 0, NULL, 0) == VI_BUFFER_NOT_SHEET, "no row and no buffer", 0, VI_BUFFER_NOT_SHEET);
+    check(vi_write_sheet(numbers, 1, NULL, 0) == VI_ROW_ODD, "half a pair and no buffer", 0, VI_ROW_ODD);
+    check(vi_write_sheet(numbers, 2, NULL, 0) == VI_BUFFER_NOT_SHEET, "a pair and no buffer", 0, VI_BUFFER_NOT_SHEET);
+    check(vi_write_sheet(numbers, MOST_ROW + 2, NULL, 0) == VI_ROW_TOO_LONG, "2,001 pairs and no buffer", 0, VI_ROW_TOO_LONG);
+}
+
+/* rows in memory that cannot be written, and that ends where they end */
+static void rows_only_read(void)
+{
+    const size_t page = (size_t)sysconf(_SC_PAGESIZE), size = (sizeof numbers + page - 1) / page * page;
+    uint8_t *memory = (uint8_t *)mmap(NULL, size + page, PROT_READ | PROT_WRITE, MAP_PRIVATE | MAP_ANONYMOUS, -1, 0);
+    if (memory == MAP_FAILED || mprotect(memory + size, page, PROT_NONE) != 0)
+        exit(2);
+    fill(memory, size);
+    check(mprotect(memory, size, PROT_READ) == 0, "memory that cannot be written", 1, 0);
+    const uint32_t *end = (const uint32_t *)(const void *)(memory + size);
+    for (size_t count = 0; count <= MOST_ROW; count += count < 20 ? 1 : 199)
+        writing_is(end - count, count, VI_SHEET_SIZE(count / 2), count % 2 ? VI_ROW_ODD : VI_WRITTEN);
+    munmap(memory, size + page);
+}
+
+/* any pairs, written over what was there; what is worked is the sheet where it stands */
+static void written_and_worked(void)
+{
+    static const uint32_t counts[] = {0, 1, 2, 3, 17, 100, VI_MOST_PAIRS};
+    for (size_t c = 0; c < sizeof counts / sizeof *counts; c++)
+        for (unsigned step = 0; step < STEPS; step++) {
+            const uint32_t n = counts[c];
+            uint8_t *buffer = room + GUARD + step;
+            for (uint32_t i = 0; i < n; i++)
+                any_pair(i, &numbers[PAIR_NUMBERS * i], &numbers[PAIR_NUMBERS * i + 1]);
+            fill(room, sizeof room);
+            const uint32_t got = vi_write_sheet(numbers, PAIR_NUMBERS * (size_t)n, buffer, VI_SHEET_SIZE(n));
+            check(got == VI_WRITTEN && get32(buffer + VI_HEADER_COUNT) == n, "a sheet to work", got, VI_WRITTEN);
+            is_worked(buffer);
+        }
+}
+
+/* the same bytes from the same list, whatever the buffer held; others where one bit of one number is another */
+static void written_twice(void)
+{
+    uint8_t first[VI_SHEET_SIZE(3)], other[sizeof first];
+    for (unsigned bit = 0; bit < 6 * 32; bit++) {
+        fill((uint8_t *)numbers, 6 * sizeof *numbers);
+        fill(first, sizeof first);
+        fill(other, sizeof other);
+        const uint32_t numbers_of_calls = vi_write_sheet(numbers, 6, first, sizeof first) + vi_write_sheet(numbers, 6, other, sizeof other);
+        check(numbers_of_calls == VI_WRITTEN && memcmp(first, other, sizeof first) == 0, "two sheets of one list", bit, 0);
+        numbers[bit / 32] ^= UINT32_C(1) << bit % 32;
+        check(vi_write_sheet(numbers, 6, other, sizeof other) == VI_WRITTEN && memcmp(first, other, sizeof first) != 0, "a sheet of another list", bit, 1);
+    }
+}
+
 int main(void)
 {
     pair_edges();
@@ -908,10 +1058,16 @@ int main(void)
     named_spans();
     span_edges();
     span_row_counts();
+    named_writing();
+    writing_edges();
+    writing_of_nothing();
+    rows_only_read();
+    written_and_worked();
+    written_twice();
     if (failures != 0) {
         printf("C calls: %u of %u checks failed\n", failures, checks);
         return 1;
     }
-    printf("C calls: %u checks of the pairs, the sheets, the constants, the trays and the spans\n", checks);
+    printf("C calls: %u checks of the pairs, the sheets, the constants, the trays, the spans and the writings\n", checks);
     return 0;
 }
