@@ -1,7 +1,9 @@
 #!/usr/bin/env python3
-"""printer.py PROGRAM: runs the printing program on sheets of every kind and compares each byte with what this script works out for itself: L
-and H from data/table1.txt as exact fractions, procedure A as a fraction, procedure B in 40 decimal digits. Prints what differs, and one line."""
+"""printer.py PROGRAM WRITER: runs the printing program on sheets of every kind and compares each byte with what this script works out for itself: L
+and H from data/table1.txt as exact fractions, procedure A as a fraction, procedure B in 40 decimal digits. Some sheets are made by the writer, which is
+tests/c/write.c, and compared too. Prints what differs, and one line."""
 import decimal
+import functools
 import os
 import random
 import struct
@@ -11,7 +13,7 @@ import time
 from fractions import Fraction
 
 HEADER, RESULT = 16, 16  # sizes in bytes
-PROGRAM = sys.argv[1]
+PROGRAM, WRITER = sys.argv[1:]
 TABLE = os.path.join(os.path.dirname(os.path.abspath(__file__)), "..", "data", "table1.txt")
 WAIT = 20  # seconds: a program that takes longer hangs
 decimal.getcontext().prec = 40
@@ -91,20 +93,29 @@ def thousandths(x):
     return "%d.%03d" % divmod(x, 1000)
 
 
+@functools.cache
+def right_lines(u, y):
+    return {"%s %s %s\n" % (thousandths(u), thousandths(y), outcome) for outcome in outcomes(u, y)}
+
+
 def lines(oils):
     """The lines of a sheet, each as the set of the lines that are right."""
     yield {"pairs %d\n" % len(oils)}
     for u, y in oils:
-        yield {"%s %s %s\n" % (thousandths(u), thousandths(y), outcome) for outcome in outcomes(u, y)}
+        yield right_lines(u, y)
 
 
 # ---- sheets
 
 
-def sheet(oils, results_first=False, gap=0, total=None):
+def row(oils):
+    return b"".join(struct.pack("<II", u, y) for u, y in oils)
+
+
+def sheet(oils, results_first=False, gap=0, total=None, old=b"\xa5"):
     """A sheet of pairs, `gap` bytes between its blocks and, where a total is wanted, bytes after them; its result block holds old bytes."""
-    pairs = b"".join(struct.pack("<II", u, y) for u, y in oils)
-    results = b"\xa5" * (RESULT * len(oils))
+    pairs = row(oils)
+    results = old * (RESULT * len(oils))
     first, second = (results, pairs) if results_first else (pairs, results)
     at = HEADER + len(first) + gap
     offsets = (at, HEADER) if results_first else (HEADER, at)
@@ -120,8 +131,8 @@ def header(n, pairs, results, total):
 # ---- the program
 
 
-def run(data):
-    done = subprocess.run([PROGRAM], input=data, capture_output=True, timeout=WAIT)
+def run(data, program=PROGRAM):
+    done = subprocess.run([program], input=data, capture_output=True, timeout=WAIT)
     check(done.returncode == 0 and done.stderr == b"", "exit status %d, on standard error: %r" % (done.returncode, done.stderr[:80]))
     return done.stdout
 
@@ -214,6 +225,17 @@ def draw():
     return random.getrandbits(32), random.getrandbits(random.choice([12, 19, 32]))
 
 
+def test_written_sheets():
+    """Change request #108: rows of every even length up to 4,000, written by vi_write_sheet, are the sheets that this script makes, and are printed."""
+    random.seed(108)
+    known = [draw() for _ in range(2000)] + [(u, y) for u, y, _ in NEAR]
+    for n in range(2001):
+        oils = random.choices(known, k=n)
+        written = run(row(oils), WRITER)
+        check(written == sheet(oils, old=b"\0"), "a written sheet of %d pairs has other bytes" % n)
+        printed("a written sheet of %d pairs" % n, written, oils)
+
+
 def test_pieces():
     oils = [draw() for _ in range(300)]
     data = sheet(oils, total=20000)
@@ -243,7 +265,7 @@ def test_closed_output():
     check(first == b"pairs 20", "output that is closed after eight bytes: %r" % first)
 
 
-for test in (test_document, test_refused_sheets, test_sizes, test_pairs, test_pieces, test_closed_output):
+for test in (test_document, test_refused_sheets, test_sizes, test_pairs, test_written_sheets, test_pieces, test_closed_output):
     try:
         test()
     except subprocess.TimeoutExpired:
