@@ -9,13 +9,13 @@
 set -eu
 root=$(cd "$(dirname "$0")/.." && pwd)
 case ${1:-time} in
-time) ;;
-count) dpkg -s valgrind >/dev/null 2>&1 || { apt-get update -qq && apt-get install -y -qq valgrind >/dev/null; } ;;
+time | count) ;;
 *) sed -n '2,5p' "$0" >&2; exit 2 ;;
 esac
 work=$(mktemp -d)
 trap 'rm -rf "$work"' EXIT
 . "$root/tests/archive.bash"
+. "$root/bench/measure.bash"
 
 mkdir -p "$work/crates/constant_c/src" "$work/crates/constant_c/proofs/constants"
 (cd "$root" && find crates/laws crates/logarithm crates/gravity_constant -path 'crates/*/out' -prune -o -type f -exec cp --parents -t "$work" {} +)
@@ -99,18 +99,13 @@ ANTT
 (cd "$work/crates/constant_c" && rt lib) >"$work/log" 2>&1 || { cat "$work/log" >&2; exit 1; }
 gcc -std=gnu11 -Wall -Wextra -Werror -O2 -I"$root/include" "$root/bench/constant.c" "$archive" "$work/crates/constant_c/out/libconstant_c.a" -lm -o "$work/constant"
 
-instructions() { # WHAT OILS TIMES
-    valgrind --tool=callgrind --callgrind-out-file=/dev/null "$work/constant" run "$1" "$2" "$3" 2>&1 | sed -n 's/.*Collected : //p'
-}
-
 if [ "${1:-time}" = time ]; then
     "$work/constant" time
     exit
 fi
+need valgrind
 for oils in lab40 full40 lab100 full100; do
     for what in printed folded call many; do
-        few=$(instructions $what $oils 1)
-        many=$(instructions $what $oils 3)
-        echo "$oils $what: $(((many - few) / 4000)) instructions a constant"
+        echo "$oils $what: $(($(of_two_passes "$work/constant" run $what $oils) / 4000)) instructions a constant"
     done
 done

@@ -83,12 +83,13 @@ static void draw(struct oils *oils, const char *name)
     oils->name = name;
     for (int i = 0; i < PAIRS; i++) {
         double l, h, y, u;
-        int mix = strcmp(name, "mix") == 0;
-        y = mix ? 3 * pow(20 / 3.0, random_unit()) : 2 * pow(250, random_unit());
+        if (strcmp(name, "mix") == 0) {
+            draw_of_mix(&oils->u[i], &oils->y[i]);
+            continue;
+        }
+        y = 2 * pow(250, random_unit());
         plain_l_and_h(y, &l, &h);
-        if (mix) /* a planner's oils: index from about 60 to 160 */
-            u = h * (0.75 + 0.4 * random_unit());
-        else if (strcmp(name, "below") == 0)
+        if (strcmp(name, "below") == 0)
             u = y + (h - y) * random_unit();
         else
             u = h + (l - h) * 1.2 * random_unit();

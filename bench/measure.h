@@ -1,4 +1,5 @@
-/* What the measurements of an index, a span, a constant and a tray share: the same random oils in each run, the clock, and how a figure is reported. */
+/* What the measurements of an index, a span, a constant, a tray and a written sheet share: the same random oils in each run, how plain C stays a call, the
+   clock, and how a figure is reported. */
 #ifndef MEASURE_H
 #define MEASURE_H
 
@@ -8,6 +9,11 @@
 #include <time.h>
 
 enum { REPEATS = 9 };
+
+/* Plain C stays a call, as the library's functions are: no inlining, and nothing that the compiler learns about the caller. What several of its calls share
+   is laid out in each. */
+#define CALLED __attribute__((noipa))
+#define LAID_OUT static inline __attribute__((always_inline))
 
 /* xorshift64, from 0 to below 1 */
 static double random_unit(void)

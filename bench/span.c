@@ -69,10 +69,7 @@ static struct span spans[SPANS];
 static int32_t rows_of[SPANS][VI_SPAN_SIZE];
 static volatile int64_t sink;
 
-/* ---- plain C and the pairs. They stay calls, as the library's functions are: no inlining, and nothing that the compiler learns about the caller */
-
-#define CALLED __attribute__((noipa))
-#define LAID_OUT static inline __attribute__((always_inline))
+/* ---- plain C and the pairs */
 
 LAID_OUT uint32_t limits(uint32_t u1, uint32_t u2, uint32_t y1, uint32_t y2, size_t count)
 {

@@ -8,28 +8,21 @@
 set -eu
 root=$(cd "$(dirname "$0")/.." && pwd)
 case ${1:-time} in
-time | sweep) ;;
-count | sweep-count) dpkg -s valgrind >/dev/null 2>&1 || { apt-get update -qq && apt-get install -y -qq valgrind >/dev/null; } ;;
+time | sweep | count | sweep-count) ;;
 *) sed -n '2,7p' "$0" >&2; exit 2 ;;
 esac
 work=$(mktemp -d)
 trap 'rm -rf "$work"' EXIT
 . "$root/tests/archive.bash"
+. "$root/bench/measure.bash"
 
 awk -f "$root/bench/table.awk" "$root/data/table1.txt" >"$work/table.h"
 gcc -std=gnu11 -Wall -Wextra -Werror -O2 -I"$root/include" -I"$work" "$root/bench/span.c" "$archive" -lm -o "$work/span"
 
 swept='2000 2200 2400 2600 3000 5000 10000' # y1
 
-instructions() { # WHAT KIND TIMES
-    valgrind --tool=callgrind --callgrind-out-file=/dev/null "$work/span" run "$1" "$2" "$3" 2>&1 | sed -n 's/.*Collected : //p'
-}
-
 of_a_span() { # WHAT KIND
-    local few many
-    few=$(instructions "$1" "$2" 1)
-    many=$(instructions "$1" "$2" 3)
-    echo $(((many - few) / 600))
+    echo $(($(of_two_passes "$work/span" run "$@") / 600))
 }
 
 ratio_of() { # KIND
@@ -43,6 +36,7 @@ case ${1:-time} in
 time) "$work/span" time ;;
 sweep) "$work/span" sweep $swept ;;
 count)
+    need valgrind
     for kind in $("$work/span" list); do
         for what in plain pairs span; do
             echo "$kind $what: $(of_a_span $what "$kind") instructions a span"
@@ -50,6 +44,7 @@ count)
     done
     ;;
 sweep-count)
+    need valgrind
     for y1 in $swept; do
         index=100
         while "$work/span" run span $y1:$index 0 2>/dev/null; do

@@ -64,9 +64,7 @@ static uint32_t at, was[TRAYS]; /* where the first number of the place stands th
 static uint32_t kept[TRAYS][VI_KEPT_SIZE]; /* what the tray keeps before a call */
 static volatile int64_t sink;
 
-/* ---- plain C. It stays a call, as the library's functions are: no inlining, and nothing that the compiler learns about the caller */
-
-#define CALLED __attribute__((noipa))
+/* ---- plain C */
 
 /* what a tray keeps, read and written where it stands: nine numbers, the first six of them in pairs of 64 bits */
 struct __attribute__((packed, may_alias)) summary {
