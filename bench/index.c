@@ -98,40 +98,22 @@ static void draw(struct oils *oils, const char *name)
     }
 }
 
-static void put(uint8_t *at, uint32_t x)
-{
-    for (int i = 0; i < 4; i++)
-        at[i] = (uint8_t)(x >> (8 * i));
-}
-
-static size_t make_sheet(uint8_t *sheet, const struct oils *oils, int n)
-{
-    size_t length = 16 + 24 * (size_t)n;
-    put(sheet, (uint32_t)n);
-    put(sheet + 4, 16);
-    put(sheet + 8, 16 + 8 * (uint32_t)n);
-    put(sheet + 12, (uint32_t)length);
-    for (int i = 0; i < n; i++) {
-        put(sheet + 16 + 8 * i, oils->u[i]);
-        put(sheet + 20 + 8 * i, oils->y[i]);
-    }
-    return length;
-}
-
 /* ---- one pass over all pairs. Sheets are made before the clock starts: a worked sheet can be worked again */
 
 static volatile int64_t sink;
-static uint8_t sheets[PAIRS][16 + 24]; /* room for PAIRS sheets of one pair, or fewer larger ones */
+static uint8_t sheets[PAIRS][VI_SHEET_SIZE(1)]; /* room for PAIRS sheets of one pair, or fewer larger ones */
 
 static void make_sheets(const struct oils *oils, int n)
 {
+    static uint32_t row[2 * PAIRS];
+    size_t length = VI_SHEET_SIZE((size_t)n);
     uint8_t *at = sheets[0];
-    for (int i = 0; i + n <= PAIRS; i += n) {
-        struct oils part;
-        memcpy(part.u, oils->u + i, sizeof *part.u * (size_t)n);
-        memcpy(part.y, oils->y + i, sizeof *part.y * (size_t)n);
-        at += make_sheet(at, &part, n);
+    for (int i = 0; i < PAIRS; i++) {
+        row[2 * i] = oils->u[i];
+        row[2 * i + 1] = oils->y[i];
     }
+    for (int i = 0; i + n <= PAIRS; i += n, at += length)
+        vi_write_sheet(row + 2 * i, 2 * (size_t)n, at, length);
 }
 
 static void pass(const char *what, const struct oils *oils, int n)
@@ -139,7 +121,7 @@ static void pass(const char *what, const struct oils *oils, int n)
     int64_t sum = 0;
     uint8_t record[16];
     if (strcmp(what, "sheet") == 0) {
-        size_t length = 16 + 24 * (size_t)n;
+        size_t length = VI_SHEET_SIZE((size_t)n);
         for (int i = 0; i < PAIRS / n; i++)
             sum += vi_sheet(sheets[0] + length * (size_t)i, length);
     } else if (strcmp(what, "pair") == 0) {
