@@ -11,12 +11,13 @@
 enum { BELOW = 64 * 1024, ABOVE = 1024, MOST = VI_MOST_PAIRS, DRAWN = 20000 };
 
 static _Alignas(16) unsigned char block[BELOW + ABOVE];
-static uint8_t record[VI_RECORD_SIZE], sheet[VI_HEADER_SIZE + (VI_PAIR_SIZE + VI_RECORD_SIZE) * MOST];
+static uint8_t record[VI_RECORD_SIZE], sheet[VI_SHEET_SIZE(MOST)];
+static uint32_t pairs_row[2 * (MOST + 1)];
 static int32_t row[3], span_row[VI_SPAN_SIZE];
 static uint32_t tray[VI_TRAY_SIZE], before[VI_TRAY_SIZE], sample[VI_SAMPLE_PAIR_SIZE]; /* before each call the tray is `before` */
 static int64_t summary[VI_SUMMARY_SIZE];
 static long most_pair, most_sheet, most_40, most_100, most_put, most_take, most_summary, calls_pair, calls_sheet, calls_constant, calls_tray;
-static long most_span, calls_span;
+static long most_span, calls_span, most_write, calls_write;
 
 /* refused pairs, a pair by A, B settled, B near, an index above the thresholds, y above Table 1 */
 static const uint32_t named[][2] = {{20000, 1999}, {900000, 500001}, {1000000001, 2000}, {2000, 2000}, {73300, 8860}, {22830, 5050},
@@ -95,12 +96,30 @@ static void pair(uint32_t u, uint32_t y, size_t length)
 static void one_sheet(uint32_t pairs, uint32_t total)
 {
     uint32_t header[] = {pairs, VI_HEADER_SIZE, VI_HEADER_SIZE + VI_PAIR_SIZE * pairs, total};
-    uint32_t length = VI_HEADER_SIZE + (VI_PAIR_SIZE + VI_RECORD_SIZE) * pairs;
+    uint32_t length = VI_SHEET_SIZE(pairs);
     memcpy(sheet, header, sizeof header);
     long bytes = used((const void *)vi_sheet, (uint64_t[6]){address(sheet), length}, NULL);
     if (bytes > most_sheet)
         most_sheet = bytes;
     calls_sheet++;
+}
+
+static void writing(size_t count, size_t length)
+{
+    long bytes = used((const void *)vi_write_sheet, (uint64_t[6]){address(pairs_row), count, address(sheet), length}, NULL);
+    most_write = bytes > most_write ? bytes : most_write;
+    calls_write++;
+}
+
+/* every count of pairs, in its size and refused by 51 and 53, and one pair more than the most, refused by 52 */
+static void writings(void)
+{
+    for (size_t pairs = 0; pairs <= MOST; pairs++) {
+        writing(2 * pairs, VI_SHEET_SIZE(pairs));
+        writing(2 * pairs + 1, VI_SHEET_SIZE(pairs));
+        writing(2 * pairs, VI_SHEET_SIZE(pairs) - 1);
+    }
+    writing(2 * (MOST + 1), sizeof sheet);
 }
 
 static void put(uint32_t place, uint32_t u, uint32_t y)
@@ -241,7 +260,7 @@ int main(void)
     for (size_t i = 0; i < NAMED; i++) {
         pair(named[i][0], named[i][1], VI_RECORD_SIZE);
         put(0, named[i][0], named[i][1]);
-        one_sheet(1, VI_HEADER_SIZE + VI_PAIR_SIZE + VI_RECORD_SIZE);
+        one_sheet(1, VI_SHEET_SIZE(1));
     }
     pair(73300, 8860, 0);
     for (int i = 0; i < DRAWN; i++) {
@@ -251,15 +270,17 @@ int main(void)
         put((uint32_t)(i % MOST), u, y);
         if (i % MOST == MOST - 1) {
             one_sheet(MOST, sizeof sheet);
-            one_sheet(60, VI_HEADER_SIZE + (VI_PAIR_SIZE + VI_RECORD_SIZE) * 60);
+            one_sheet(60, VI_SHEET_SIZE(60));
         }
     }
     one_sheet(0, VI_HEADER_SIZE);
     one_sheet(1, 0);
+    writings();
     constants();
     trays();
     spans();
     printf("stack: vi_pair %ld bytes, vi_sheet %ld bytes, the most of %ld and of %ld calls\n", most_pair, most_sheet, calls_pair, calls_sheet);
+    printf("stack: vi_write_sheet %ld bytes, the most of %ld calls\n", most_write, calls_write);
     printf("stack: vi_constant_40 %ld bytes, vi_constant_100 %ld bytes, the most of %ld calls\n", most_40, most_100, calls_constant);
     printf("stack: vi_span %ld bytes, the most of %ld calls\n", most_span, calls_span);
     printf("stack: vi_tray_put %ld bytes, vi_tray_take %ld bytes, vi_tray_summary %ld bytes, the most of %ld calls of each\n", most_put, most_take,
