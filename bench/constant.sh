@@ -7,15 +7,11 @@
 # Two of ours are measured: the C calls, one for each constant, and the calculation in one call for all oils. No C function does the second, so a crate
 # that does is written beside a copy of those below it, outside the repository.
 set -eu
-root=$(cd "$(dirname "$0")/.." && pwd)
 case ${1:-time} in
 time | count) ;;
 *) sed -n '2,5p' "$0" >&2; exit 2 ;;
 esac
-work=$(mktemp -d)
-trap 'rm -rf "$work"' EXIT
-. "$root/tests/archive.bash"
-. "$root/bench/measure.bash"
+. "$(dirname "$0")/measure.bash"
 
 mkdir -p "$work/crates/constant_c/src" "$work/crates/constant_c/proofs/constants"
 (cd "$root" && find crates/laws crates/logarithm crates/gravity_constant -path 'crates/*/out' -prune -o -type f -exec cp --parents -t "$work" {} +)

@@ -5,11 +5,7 @@
 #   bench/index.sh count     instructions a pair by valgrind's callgrind, which a noisy machine does not change
 #   bench/index.sh size      code size of the archive's objects, and the stack that each call uses
 set -eu
-root=$(cd "$(dirname "$0")/.." && pwd)
-work=$(mktemp -d)
-trap 'rm -rf "$work"' EXIT
-. "$root/tests/archive.bash"
-. "$root/bench/measure.bash"
+. "$(dirname "$0")/measure.bash"
 need libmpfr-dev
 
 awk -f "$root/bench/table.awk" "$root/data/table1.txt" >"$work/table.h"

@@ -1,4 +1,9 @@
-# What the scripts of the benches share, as their programs share measure.h. Source it behind tests/archive.bash, with $root and $work set.
+# What the scripts of the benches share, as their programs share measure.h: $root is the repository, $work a folder that is gone with the script, and
+# $archive the library's archive.
+root=$(cd "$(dirname "${BASH_SOURCE[0]}")/.." && pwd)
+work=$(mktemp -d)
+trap 'rm -rf "$work"' EXIT
+. "$root/tests/archive.bash"
 
 need() { # PACKAGE ..
     local package

@@ -6,15 +6,11 @@
 #   bench/span.sh sweep         the ratio to the pairs while the index rises, at some y1, until it is above the target or u1 cannot be less
 #   bench/span.sh sweep-count   the same in instructions, until u1 cannot be less
 set -eu
-root=$(cd "$(dirname "$0")/.." && pwd)
 case ${1:-time} in
 time | sweep | count | sweep-count) ;;
 *) sed -n '2,7p' "$0" >&2; exit 2 ;;
 esac
-work=$(mktemp -d)
-trap 'rm -rf "$work"' EXIT
-. "$root/tests/archive.bash"
-. "$root/bench/measure.bash"
+. "$(dirname "$0")/measure.bash"
 
 awk -f "$root/bench/table.awk" "$root/data/table1.txt" >"$work/table.h"
 gcc -std=gnu11 -Wall -Wextra -Werror -O2 -I"$root/include" -I"$work" "$root/bench/span.c" "$archive" -lm -o "$work/span"

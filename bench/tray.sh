@@ -5,15 +5,11 @@
 #                         the sample that is taken is the only one, or has an index between the lowest and the highest, or the lowest
 #   bench/tray.sh count   instructions a call by valgrind's callgrind, which a noisy machine does not change
 set -eu
-root=$(cd "$(dirname "$0")/.." && pwd)
 case ${1:-time} in
 time | count) ;;
 *) sed -n '2,6p' "$0" >&2; exit 2 ;;
 esac
-work=$(mktemp -d)
-trap 'rm -rf "$work"' EXIT
-. "$root/tests/archive.bash"
-. "$root/bench/measure.bash"
+. "$(dirname "$0")/measure.bash"
 build_aligned "$work/tray" "$root/bench/tray.c"
 
 of_tray() { # WHAT CASE OIL

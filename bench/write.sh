@@ -5,15 +5,11 @@
 #                          2,000 at an odd address
 #   bench/write.sh count   instructions a pair by valgrind's callgrind, which a noisy machine does not change
 set -eu
-root=$(cd "$(dirname "$0")/.." && pwd)
 case ${1:-time} in
 time | count) ;;
 *) sed -n '2,6p' "$0" >&2; exit 2 ;;
 esac
-work=$(mktemp -d)
-trap 'rm -rf "$work"' EXIT
-. "$root/tests/archive.bash"
-. "$root/bench/measure.bash"
+. "$(dirname "$0")/measure.bash"
 awk -f "$root/bench/table.awk" "$root/data/table1.txt" >"$work/table.h"
 build_aligned "$work/write" "$root/bench/write.c" -lm
 

@@ -321,6 +321,13 @@ must_notice() {
     echo "noticed: $3: $what"
 }
 
+# must_pass SOURCE NUMBER NAME WRAPS SHOWN OPTIONS: the library of that number, of that source, is right. SHOWN says to sed what to print of its run.
+must_pass() {
+    build_compare right -DWRONG="$2" "$root/tests/compare/$1" "-Wl,$4"
+    "$work/right" "${@:6}" >"$work/out" 2>&1 || { cat "$work/out"; die "not let pass: $3"; }
+    echo "passes: $3: $(sed -n "$5" "$work/out")"
+}
+
 for i in "${!wrong[@]}"; do
     must_notice wrong.c $((i + 1)) "${wrong[$i]}" --wrap=vi_pair,--wrap=vi_sheet "${short[@]}"
 done
@@ -329,18 +336,14 @@ for i in "${!wrong_constants[@]}"; do
     must_notice wrong_constants.c $((i + 1)) "${wrong_constants[$i]}" "$constants" "${short[@]}"
 done
 for i in "${!right_constants[@]}"; do
-    build_compare right -DWRONG=$((${#wrong_constants[@]} + i + 1)) "$root/tests/compare/wrong_constants.c" "-Wl,$constants"
-    "$work/right" "${short[@]}" >"$work/out" 2>&1 || { cat "$work/out"; die "not let pass: ${right_constants[$i]}"; }
-    echo "passes: ${right_constants[$i]}: $(sed -n 's/^k from .*; widest/widest/p' "$work/out")"
+    must_pass wrong_constants.c $((${#wrong_constants[@]} + i + 1)) "${right_constants[$i]}" "$constants" 's/^k from .*; widest/widest/p' "${short[@]}"
 done
 trays=--wrap=vi_pair,--wrap=vi_tray_put,--wrap=vi_tray_take,--wrap=vi_tray_summary
 for i in "${!wrong_trays[@]}"; do
     must_notice wrong_trays.c $((i + 1)) "${wrong_trays[$i]}" "$trays" "${short_trays[@]}"
 done
 for i in "${!right_trays[@]}"; do
-    build_compare right -DWRONG=$((${#wrong_trays[@]} + i + 1)) "$root/tests/compare/wrong_trays.c" "-Wl,$trays"
-    "$work/right" "${short_trays[@]}" >"$work/out" 2>&1 || { cat "$work/out"; die "not let pass: ${right_trays[$i]}"; }
-    echo "passes: ${right_trays[$i]}: $(sed -n 's/^index from .*; widest/widest/p' "$work/out")"
+    must_pass wrong_trays.c $((${#wrong_trays[@]} + i + 1)) "${right_trays[$i]}" "$trays" 's/^index from .*; widest/widest/p' "${short_trays[@]}"
 done
 calls=--wrap=vi_tray_put,--wrap=vi_tray_take,--wrap=vi_tray_summary
 for i in "${!wrong_numbers[@]}"; do
@@ -354,18 +357,14 @@ for i in "${!wrong_spans[@]}"; do
     must_notice wrong_spans.c $((i + 1)) "${wrong_spans[$i]}" "$spans" "${short_spans[@]}"
 done
 for i in "${!right_spans[@]}"; do
-    build_compare right -DWRONG=$((${#wrong_spans[@]} + i + 1)) "$root/tests/compare/wrong_spans.c" "-Wl,$spans"
-    "$work/right" "${short_spans[@]}" >"$work/out" 2>&1 || { cat "$work/out"; die "not let pass: ${right_spans[$i]}"; }
-    echo "passes: ${right_spans[$i]}: $(sed -n 's/^\(spans [0-9]*: answered [0-9]*\).*/\1/p' "$work/out")"
+    must_pass wrong_spans.c $((${#wrong_spans[@]} + i + 1)) "${right_spans[$i]}" "$spans" 's/^\(spans [0-9]*: answered [0-9]*\).*/\1/p' "${short_spans[@]}"
 done
 writes=--wrap=vi_write_sheet
 for i in "${!wrong_writes[@]}"; do
     must_notice wrong_writes.c $((i + 1)) "${wrong_writes[$i]}" "$writes" "${short_writes[@]}"
 done
 for i in "${!right_writes[@]}"; do
-    build_compare right -DWRONG=$((${#wrong_writes[@]} + i + 1)) "$root/tests/compare/wrong_writes.c" "-Wl,$writes"
-    "$work/right" "${short_writes[@]}" >"$work/out" 2>&1 || { cat "$work/out"; die "not let pass: ${right_writes[$i]}"; }
-    echo "passes: ${right_writes[$i]}: $(sed -n 's/^\(writings [0-9]*: written [0-9]*\).*/\1/p' "$work/out")"
+    must_pass wrong_writes.c $((${#wrong_writes[@]} + i + 1)) "${right_writes[$i]}" "$writes" 's/^\(writings [0-9]*: written [0-9]*\).*/\1/p' "${short_writes[@]}"
 done
 # Needs no library: the wrong ones are our own with another table.
 from=$root/tests/compare
