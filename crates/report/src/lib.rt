@@ -38,7 +38,7 @@ fn put_pairs(text: &mut Text, sheet: &[u8])
     let blocks = Blocks::named_in(sheet);
     text.push_str(&text_lines::first_line(blocks.count as u32));
     for i in 0..blocks.count {
-        text.push_str(&text_lines::line_at(sheet, blocks, i));
+        text_lines::push_line(text, sheet, blocks, i);
     }
 }
 

@@ -1,6 +1,7 @@
-// The fields of a printed line: which bytes are a number, a viscosity, an index, a word? Each function answers one as a text of its own, which lies in
-// the value itself: nothing is allocated, and the greatest width of the field is the text's capacity. It is put together by `push_str`: `Display` and `write!`
-// would be no plainer, since they answer a `fmt::Result`, of which no clause says that it is `Ok` where there is room.
+// The fields of a printed line: which bytes are a number, a viscosity, an index, a word? Each comes in two forms. A function `push_..` puts it behind a text that
+// the caller lends, where there is room: a line is put together so, byte by byte where it is to stand, since texts that are copied one into the other took four
+// times as long. The other answers it as a text of its own, which lies in the value itself: nothing is allocated, and the greatest width of the field is the
+// text's capacity. `Display` and `write!` would be no plainer, since they answer a `fmt::Result`, of which no clause says that it is `Ok` where there is room.
 #![tactic(auto)]
 
 ghost use Rattle.std.specs.Prelude.{◌≡◌, ◌+◌, ◌≤◌, ◌++◌, length};
@@ -19,46 +20,82 @@ pub const INDEX_WIDTH: usize = 11;
 pub const SPACE: &str = " ";
 
 // The last decimal digit of n.
-fn digit(n: u32) -> ArrayString<1>
-    ensures { result.bytes ≡ digit n }
+fn push_digit<const N: usize>(text: &mut ArrayString<N>, n: u32)
+    requires { length text.old.bytes + 1 ≤ N }
+    ensures bytes { text.new.bytes ≡ text.old.bytes ++ digit n }
+    ensures len { length text.new.bytes ≡ length text.old.bytes + 1 }
 {
-    let mut text = ArrayString::new();
     text.push(char::from_digit(n % 10, 10).unwrap());
-    text
 }
 
 // The decimal digits of n.
 #[tactic(auto, using(crate::proofs::Digits::as_printed))]
-pub fn decimal(n: u32) -> ArrayString<NUMBER_WIDTH>
-    ensures { result.bytes ≡ decimal n }
+pub fn push_decimal<const N: usize>(text: &mut ArrayString<N>, n: u32)
+    requires { length text.old.bytes + length (decimal n) ≤ N }
+    ensures bytes { text.new.bytes ≡ text.old.bytes ++ decimal n }
+    ensures len { length text.new.bytes ≡ length text.old.bytes + length (decimal n) }
 {
-    let mut text = ArrayString::new();
     text.push_str(itoa::Buffer::new().format(n));
-    text
 }
 
 // A viscosity of x thousandths, with three decimals: digit by digit, since itoa leaves out zeros at the front, and `{:03}` is one of `write!`.
 #[tactic(auto, using(crate::proofs::Digits::digits_of_whole), unfolding(crate::specs::Fields::viscosity))]
+pub fn push_viscosity<const N: usize>(text: &mut ArrayString<N>, x: u32)
+    requires { length text.old.bytes + 11 ≤ N }
+    ensures bytes { text.new.bytes ≡ text.old.bytes ++ viscosity x }
+    ensures within { length text.new.bytes ≤ length text.old.bytes + 11 }
+{
+    push_decimal(text, x / 1000);
+    text.push_str(".");
+    push_digit(text, x / 100);
+    push_digit(text, x / 10);
+    push_digit(text, x);
+}
+
+// An index, with a minus sign where it is below zero. As one function with `push_decimal` it would be no plainer: its clause would speak of what the library
+// prints of any number, and each caller would have to cite that this is document 01's `decimal` or `signed_decimal`.
+#[tactic(auto, using(crate::proofs::Digits::signed_as_printed))]
+pub fn push_signed_decimal<const N: usize>(text: &mut ArrayString<N>, index: i32)
+    requires { length text.old.bytes + 11 ≤ N }
+    ensures bytes { text.new.bytes ≡ text.old.bytes ++ signed_decimal index }
+    ensures within { length text.new.bytes ≤ length text.old.bytes + 11 }
+{
+    text.push_str(itoa::Buffer::new().format(index));
+}
+
+// The line's end, byte 10.
+pub fn push_end<const N: usize>(text: &mut ArrayString<N>)
+    requires { length text.old.bytes + 1 ≤ N }
+    ensures { text.new.bytes ≡ text.old.bytes ++ line_end }
+{
+    text.push_str("\n");
+}
+
+// The decimal digits of n.
+#[tactic(auto, using(crate::proofs::Digits::digits_of_32_bits))]
+pub fn decimal(n: u32) -> ArrayString<NUMBER_WIDTH>
+    ensures { result.bytes ≡ decimal n }
+{
+    let mut text = ArrayString::new();
+    push_decimal(&mut text, n);
+    text
+}
+
+// A viscosity of x thousandths.
 pub fn viscosity(x: u32) -> ArrayString<VISCOSITY_WIDTH>
     ensures { result.bytes ≡ viscosity x }
 {
     let mut text = ArrayString::new();
-    text.push_str(&decimal(x / 1000));
-    text.push_str(".");
-    text.push_str(&digit(x / 100));
-    text.push_str(&digit(x / 10));
-    text.push_str(&digit(x));
+    push_viscosity(&mut text, x);
     text
 }
 
-// An index, with a minus sign where it is below zero. As one function with `decimal` it would be no plainer: its clause would speak of what the library prints of
-// any number, and each caller would have to cite that this is document 01's `decimal` or `signed_decimal`.
-#[tactic(auto, using(crate::proofs::Digits::signed_as_printed))]
+// An index.
 pub fn signed_decimal(index: i32) -> ArrayString<INDEX_WIDTH>
     ensures { result.bytes ≡ signed_decimal index }
 {
     let mut text = ArrayString::new();
-    text.push_str(itoa::Buffer::new().format(index));
+    push_signed_decimal(&mut text, index);
     text
 }
 
@@ -74,11 +111,11 @@ pub fn worded<const N: usize>(word: &str, number: &str) -> ArrayString<N>
     text
 }
 
-// A line's fields with the line's end, byte 10.
+// A line's fields with the line's end.
 pub fn ended<const N: usize>(mut line: ArrayString<N>) -> ArrayString<N>
     requires { length line.bytes + 1 ≤ N }
     ensures { result.bytes ≡ line.entry.bytes ++ line_end }
 {
-    line.push_str("\n");
+    push_end(&mut line);
     line
 }
