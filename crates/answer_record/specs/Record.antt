@@ -1,6 +1,7 @@
 -- Document 01, 'A sheet': "A result is 16 bytes: byte 0 the pair's number (0 answered); byte 1 the method (0 refused, 1 A, 2 B settled,
 -- 3 B near); bytes 2 and 3 zero; 4 to 7 the index, two's complement; 8 to 11 p; 12 to 15 P. What does not apply is zero."
-use Rattle.std.specs.Prelude.{ℕ, ◌+◌, ◌≡◌, List, [], ◌∷◌, ◌++◌, ℤ, get_or, take, drop}
+use Rattle.std.specs.Prelude.{ℕ, ◌+◌, ◌≡◌, List, [], ◌∷◌, ◌++◌, ℤ, get_or, take, drop, Result}
+use Rattle.index.specs.declared.answer.Index.{Index}
 use Rattle.index.specs.Answer.{Answer, number_of, method_of, index_of, lower_of, upper_of, RightAnswer}
 use Rattle.index.specs.ChosenAnswer.{answer_of}
 use Rattle.answer_record.specs.declared.store.Record.{Record}
@@ -34,16 +35,24 @@ laid_out_bytes number method index lower upper = head_of number method ++ (bytes
 abbrev pub laid_out : Record → List ℕ
 laid_out fields = laid_out_bytes fields.number fields.method fields.index fields.lower fields.upper
 
--- the fields of a refused pair, and those of an answer
+-- the fields of a refused pair
 abbrev pub refused_fields : ℕ → Record
 refused_fields number = record { number = number; method = 0; index = 0; lower = 0; upper = 0 }
 
+-- the fields and the record of an answer refused in any way, under its number
+abbrev pub numbered_fields : {R : Type 0} → ℕ → Result Index R → Record
+numbered_fields number a = record { number = number; method = method_of a; index = twos_complement (index_of a); lower = lower_of a; upper = upper_of a }
+
+abbrev pub numbered_record : {R : Type 0} → ℕ → Result Index R → List ℕ
+numbered_record number a = laid_out (numbered_fields number a)
+
+-- the fields of an answer to a pair
 abbrev pub fields_of : Answer → Record
-fields_of a = record { number = number_of a; method = method_of a; index = twos_complement (index_of a); lower = lower_of a; upper = upper_of a }
+fields_of a = numbered_fields (number_of a) a
 
 -- the record of an answer
 abbrev pub record_of : Answer → List ℕ
-record_of a = laid_out_bytes (number_of a) (method_of a) (twos_complement (index_of a)) (lower_of a) (upper_of a)
+record_of a = numbered_record (number_of a) a
 
 -- the record that begins at `at`, and its fields read from the bytes
 abbrev pub record_at : List ℕ → ℕ → List ℕ

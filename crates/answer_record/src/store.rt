@@ -1,12 +1,13 @@
 // The fields of a record, and how they are laid out.
 ghost use Rattle.std.specs.Prelude.{◌≡◌, ◌+◌, ◌≤◌, length};
+ghost use Rattle.index.specs.Answer.{NumberOf};
 ghost use Rattle.answer_record.specs.Bytes.{stored};
-ghost use Rattle.answer_record.specs.Record.{result_size, refused_fields, fields_of, laid_out};
+ghost use Rattle.answer_record.specs.Record.{result_size, refused_fields, numbered_fields, laid_out};
 
 use crate::bytes::{store_number, twos_complement};
 use crate::layout::*;
+use index::Index;
 use index::answer::{ANSWERED, METHOD_A, METHOD_REFUSED, method_of};
-use index::{Answer, Index};
 
 // The fields: the pair's number, the method, the index as the 32-bit number that a record has, p and P. What does not apply is zero. The number and
 // the method stay numbers: they are the bytes that document 01 lays out.
@@ -40,13 +41,13 @@ impl Record {
     }
 }
 
-// Of an answer, procedure by procedure.
-impl From<Answer> for Record {
-    ghost from_gives = { λ answer fields. fields ≡ fields_of answer };
+// Of an answer, procedure by procedure; a refused one may be refused by any number of one byte.
+impl<R: Copy + Into<u8>> From<Result<Index, R>> for Record {
+    ghost from_gives = { λ answer fields. NumberOf R.converts answer fields.number × (fields ≡ numbered_fields fields.number answer) };
 
-    fn from(answer: Answer) -> Record {
+    fn from(answer: Result<Index, R>) -> Record {
         match answer {
-            Err(refusal) => Record::refused(u8::from(refusal)),
+            Err(refusal) => Record::refused(refusal.into()),
             Ok(Index::A(index)) => Record {
                 method: METHOD_A,
                 index: twos_complement(index),

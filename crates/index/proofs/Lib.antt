@@ -1,4 +1,5 @@
--- The laws of the pair operation, each leaning on those before it. Crates above cite Right, Fits and Order.
+-- The laws of the pair operation, each leaning on those before it. Crates above cite PairNumber, Right, Fits and Order.
+pub mod PairNumber
 pub mod QuestionOrder
 pub mod ProcedureA
 pub mod Consistent

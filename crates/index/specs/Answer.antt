@@ -24,28 +24,33 @@ abbrev pub number_of : Answer → ℕ
 number_of (Err refusal) = number_of_refusal refusal
 number_of (Ok index) = 0
 
+-- n is that number of an answer refused in any way: `gives` says of a refusal which number is its own
+abbrev pub NumberOf : {R : Type 0} → (R → ℕ → Type 0) → Result Index R → ℕ → Type 0
+NumberOf gives (Err refusal) n = gives refusal n
+NumberOf gives (Ok index) n = n ≡ 0
+
 -- "0 refused, 1 A, 2 B settled, 3 B near"
 abbrev pub method_of_mark : Mark → ℕ
 method_of_mark mark.Settled = 2
 method_of_mark mark.Near = 3
 
-abbrev pub method_of : Answer → ℕ
+abbrev pub method_of : {R : Type 0} → Result Index R → ℕ
 method_of (Err refusal) = 0
 method_of (Ok (A index)) = 1
 method_of (Ok (B b)) = method_of_mark b.mark
 
 -- the index, and the numerators p and P: "What does not apply is zero."
-abbrev pub index_of : Answer → ℤ
+abbrev pub index_of : {R : Type 0} → Result Index R → ℤ
 index_of (Err refusal) = pos 0
 index_of (Ok (A index)) = index
 index_of (Ok (B b)) = pos b.index
 
-abbrev pub lower_of : Answer → ℕ
+abbrev pub lower_of : {R : Type 0} → Result Index R → ℕ
 lower_of (Err refusal) = 0
 lower_of (Ok (A index)) = 0
 lower_of (Ok (B b)) = b.lower
 
-abbrev pub upper_of : Answer → ℕ
+abbrev pub upper_of : {R : Type 0} → Result Index R → ℕ
 upper_of (Err refusal) = 0
 upper_of (Ok (A index)) = 0
 upper_of (Ok (B b)) = b.upper

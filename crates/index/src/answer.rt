@@ -2,7 +2,7 @@
 ghost use Rattle.std.specs.Prelude.{◌≡◌, ◌<◌};
 ghost use Rattle.std.specs.Int.Signed.{mag};
 ghost use Rattle.laws.specs.Bits.{span32};
-ghost use Rattle.index.specs.Answer.{number_of, method_of, method_of_mark, index_of};
+ghost use Rattle.index.specs.Answer.{NumberOf, method_of, method_of_mark, index_of};
 
 use reference::Refusal;
 use shown_index::{ByB, Mark};
@@ -29,13 +29,14 @@ pub const METHOD_B_SETTLED: u8 = 2;
 
 pub const METHOD_B_NEAR: u8 = 3;
 
-// The number of the question that refused the pair, 0 where it is answered: byte 0 of its result.
-pub fn number_of(answer: Answer) -> u8
-    ensures { result ≡ number_of answer }
+// The number of the question that refused the pair, 0 where it is answered: byte 0 of its result. An answer may be refused by other questions too, as those of
+// a tray are: whatever gives a number of one byte, or is one, may stand for the refusal here and below.
+pub fn number_of<R: Copy + Into<u8>>(answer: Result<Index, R>) -> u8
+    ensures { NumberOf R.converts answer result }
 {
     match answer {
         Ok(_) => ANSWERED,
-        Err(refusal) => u8::from(refusal),
+        Err(refusal) => refusal.into(),
     }
 }
 
@@ -50,7 +51,7 @@ fn method_of_mark(mark: Mark) -> u8
 }
 
 // The method: 0 refused, 1 A, 2 B settled, 3 B near.
-pub fn method_of(answer: Answer) -> u8
+pub fn method_of<R: Copy>(answer: Result<Index, R>) -> u8
     ensures { result ≡ method_of answer }
 {
     match answer {
@@ -62,7 +63,7 @@ pub fn method_of(answer: Answer) -> u8
 
 // The index; 64 bits hold it whatever the answer is. It is 0 where the pair is refused, as in its result ("What does not apply is zero"), so that sums need
 // no case for it.
-pub fn index_of(answer: Answer) -> i64
+pub fn index_of<R: Copy>(answer: Result<Index, R>) -> i64
     ensures value { result ≡ index_of answer }
     ensures bound { mag result < span32 }
 {

@@ -1,8 +1,9 @@
 -- Change request #102: "Asked, it gives the lowest and highest index, the sum of indices and the count for each of A, B settled and B near". A summary of
 -- answers, made by adding them one after the other, and what it is for a summary to be right.
-use Rattle.std.specs.Prelude.{ℕ, ◌+◌, ◌-◌, ◌≡◌, ◌⊎◌, Bool, cond, ◌&&◌, List, [], ◌∷◌, eqb, ℤ, pos, negsuc, ◌+ℤ◌, ◌-ℤ◌, ◌≤ℤ◌}
+use Rattle.std.specs.Prelude.{ℕ, ◌+◌, ◌-◌, ◌≡◌, ◌⊎◌, Bool, cond, ◌&&◌, List, [], ◌∷◌, eqb, ℤ, pos, negsuc, ◌+ℤ◌, ◌-ℤ◌, ◌≤ℤ◌, Result}
 use Rattle.std.specs.Int.{int_min, int_max}
 use Rattle.std.specs.Int.Signed.{lt_z}
+use Rattle.index.specs.declared.answer.Index.{Index}
 use Rattle.index.specs.Answer.{Answer, index_of, method_of}
 use Rattle.index_summary.specs.declared.Summary as declared
 
@@ -23,7 +24,7 @@ abbrev pub method_near : ℕ
 method_near = 3
 
 -- the summary of one answer, and a summary with one answer more
-unfoldable pub alone_of : Answer → declared.Summary
+unfoldable pub alone_of : {R : Type 0} → Result Index R → declared.Summary
 alone_of answer = record {
   lowest = index_of answer;
   highest = index_of answer;
@@ -33,7 +34,7 @@ alone_of answer = record {
   near = one (method_of answer) method_near;
 }
 
-unfoldable pub joined_of : declared.Summary → Answer → declared.Summary
+unfoldable pub joined_of : {R : Type 0} → declared.Summary → Result Index R → declared.Summary
 joined_of t answer = record {
   lowest = int_min t.lowest (index_of answer);
   highest = int_max t.highest (index_of answer);
@@ -64,7 +65,7 @@ is_of_none t = eqb t.a 0 && (eqb t.settled 0 && eqb t.near 0)
 abbrev pub is_above : ℤ → ℤ → Bool
 is_above a b = lt_z b a
 
-abbrev pub is_between : declared.Summary → Answer → Bool
+abbrev pub is_between : {R : Type 0} → declared.Summary → Result Index R → Bool
 is_between t answer = is_above (index_of answer) t.lowest && is_above t.highest (index_of answer)
 
 -- a sum without one index, and a count without so many, 0 where there are not as many
@@ -75,7 +76,7 @@ abbrev pub count_without : ℕ → ℕ → ℕ
 count_without count less = count - less
 
 -- a summary with one such answer less
-unfoldable pub without_of : declared.Summary → Answer → declared.Summary
+unfoldable pub without_of : {R : Type 0} → declared.Summary → Result Index R → declared.Summary
 without_of t answer = record {
   lowest = t.lowest;
   highest = t.highest;

@@ -6,7 +6,7 @@ ghost use Rattle.index_summary.specs.Summary.{is_between, without_of};
 ghost use Rattle.index_summary.specs.Preconditions.{most, Within, is_within};
 
 use crate::Summary;
-use index::Answer;
+use index::Index;
 use index::answer::index_of;
 
 // What the fields of a summary may come to, to which one answer more may be added: 2^32, that times 65,536, and 65,536.
@@ -38,7 +38,7 @@ impl Summary {
     }
 
     // Is the index of an answer above the lowest, and the highest above it?
-    pub fn is_between(self, answer: Answer) -> bool
+    pub fn is_between<R: Copy>(self, answer: Result<Index, R>) -> bool
         ensures { result ≡ is_between self answer }
     {
         let index = index_of(answer);
@@ -47,7 +47,7 @@ impl Summary {
 
     // A summary with one answer less; the lowest and the highest stay. An inner function, as `joined` is.
     #[tactic(auto, unfolding(crate::specs::Summary::alone_of, crate::specs::Summary::without_of))]
-    pub fn without(self, answer: Answer) -> Summary
+    pub fn without<R: Copy>(self, answer: Result<Index, R>) -> Summary
         requires { Within most self }
         ensures { result ≡ without_of self answer }
     {

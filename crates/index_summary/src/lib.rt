@@ -8,8 +8,8 @@ ghost use Rattle.std.specs.Prelude.{◌≡◌};
 ghost use Rattle.index_summary.specs.Summary.{alone_of, joined_of, nothing, is_of_none};
 ghost use Rattle.index_summary.specs.Preconditions.{most, Within};
 
+use index::Index;
 use index::answer::index_of;
-use index::{Answer, Index};
 pub use less::magnitude;
 use shown_index::Mark;
 
@@ -50,7 +50,7 @@ impl Default for Summary {
 impl Summary {
     // The summary of one answer.
     #[tactic(auto, unfolding(crate::specs::Summary::alone_of))]
-    pub fn of(answer: Answer) -> Summary
+    pub fn of<R: Copy>(answer: Result<Index, R>) -> Summary
         ensures { result ≡ alone_of answer }
     {
         let index = index_of(answer);
@@ -82,7 +82,7 @@ impl Summary {
     // A summary with one answer more. An inner function, for callers that know the summary to be of few enough: an invariant of `Summary` in place of the
     // bound would ask it of whoever makes one, and crate summary_block makes one of any nine numbers.
     #[tactic(auto, unfolding(crate::specs::Summary::alone_of, crate::specs::Summary::joined_of))]
-    pub fn joined(self, answer: Answer) -> Summary
+    pub fn joined<R: Copy>(self, answer: Result<Index, R>) -> Summary
         requires { Within most self }
         ensures { result ≡ joined_of self answer }
     {

@@ -74,7 +74,7 @@ front_small l h f j =
     (λ b. rw (get_or-eq_default (places_in l) 0 {n = j} (omega (arith, length_places l h))) (omega arith))
 
 -- the index that the places answer a put with: its magnitude is below 2^32
-pub put_small : (q : List ℕ) (n u y : ℕ) {i : Index} → length q ≡ places_size → Ok i ≡ places.put_answer q n u y → mag (index_of (Ok i)) < span32
+pub put_small : (q : List ℕ) (n u y : ℕ) {i : Index} → length q ≡ places_size → Ok i ≡ places.put_answer q n u y → mag (index_of {R = of_pair.Refusal} (Ok i)) < span32
 put_small q n u y {i} h is =
     let small : mag (index_of (answer_of u y)) < span32 = omega (arith, (fits u y).index) in
     subst (λ (a : Answer). mag (index_of a) < span32) (sym (put_alone q n u y h (sym is)).1) small

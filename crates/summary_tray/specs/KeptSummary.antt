@@ -2,6 +2,7 @@
 -- give, also when the lowest leaves while another sample has the same index; with none held the tray still says so." What holds after every list of calls, and of
 -- each call on any memory, whoever wrote it. The walk that the kept summary is compared with is #102's (tray, State.antt: `state_of`).
 use Rattle.std.specs.Prelude.{ℕ, ◌<◌, ◌≡◌, true, false, List, [], length, get_or, drop, Option, Some, None, Result, Ok, Err}
+use Rattle.reference.specs.declared.refusal.Refusal as of_pair
 use Rattle.index.specs.declared.answer.Index.{Index}
 use Rattle.index.specs.Answer.{index_of}
 use Rattle.index_summary.specs.declared.Summary.{Summary}
@@ -74,7 +75,7 @@ pub record AnyMemory (tray : List ℕ) (lent : length tray ≡ 521) : Type 0 whe
   pub from_kept_alone : (other : List ℕ) → length other ≡ 521 → drop 512 other ≡ drop 512 tray → state_of other ≡ state_of tray
   -- a put adds its answer to what is kept, and a take takes one off that is between the lowest and the highest, where one answer more may be added
   pub added : is_within (kept_in tray) ≡ true → (number u y : ℕ) {index : Index} → put_answer tray number u y ≡ Ok index
-      → drop 512 (after tray (Put number u y)) ≡ block_of (joined_of (kept_in tray) (Ok index))
+      → drop 512 (after tray (Put number u y)) ≡ block_of (joined_of {R = of_pair.Refusal} (kept_in tray) (Ok index))
   pub taken_off : is_within (kept_in tray) ≡ true → (number : ℕ) {s : Sample} → take_answer tray number ≡ Ok s → is_between (kept_in tray) s.answer ≡ true
       → drop 512 (after tray (Take number)) ≡ block_of (without_of (kept_in tray) s.answer)
   -- a summary that is the samples' own stays so

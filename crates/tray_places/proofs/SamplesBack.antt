@@ -14,7 +14,7 @@ use Rattle.shown_index.specs.declared.Mark.{Mark}
 use Rattle.shown_index.specs.declared.Mark.TheVariants as mark
 use Rattle.shown_index.specs.declared.ByB.{ByB}
 use Rattle.index.specs.declared.answer.Index.TheVariants.{A, B}
-use Rattle.index.specs.Answer.{Answer, method_of, index_of, lower_of, upper_of, RightAnswer}
+use Rattle.index.specs.Answer.{Answer, method_of_mark, method_of, index_of, lower_of, upper_of, RightAnswer}
 use Rattle.index.specs.Questions.{refusal}
 use Rattle.index.specs.ChosenAnswer.{answer_of}
 use Rattle.index.proofs.Fits.{Fits, fits}
@@ -27,7 +27,7 @@ use Rattle.tray_places.specs.Places.{place_size, numbers_of, is_held, sample_at}
 use Rattle.tray_places.proofs.Kept.{place_there, held_there}
 use Rattle.tray_places.proofs.Same.{mark_method}
 
-marked_back : (b : ByB) (m : Mark) → b.mark ≡ m → answer_from (method_of (Ok (B b))) b.index b.lower b.upper ≡ Ok (B b)
+marked_back : (b : ByB) (m : Mark) → b.mark ≡ m → answer_from (method_of_mark b.mark) b.index b.lower b.upper ≡ Ok (B b)
 unfolding answer_from
 marked_back b mark.Settled h = rw h
 marked_back b mark.Near h = rw h

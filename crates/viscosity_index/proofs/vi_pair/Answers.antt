@@ -2,8 +2,9 @@
 use mathlib.Core.Path.{ap, ◌∙◌}
 use borrow.Author.Tests.{eq-eqb, ne_eqb}
 use Rattle.index.specs.Answer.{number_of}
+use Rattle.index.proofs.PairNumber.{number_of_pair}
 use Rattle.answer_record.specs.Record.{record_of}
-use Rattle.answer_record.proofs.Records.{whole}
+use Rattle.answer_record.proofs.Records.{pair_stored, whole}
 use Rattle.viscosity_index.specs.PairCall.{pair_number, record_after}
 use Rattle.viscosity_index.proofs.Calls.{untouched, filled}
 use Rattle.viscosity_index.proofs.vi_pair.Goals as goal
@@ -19,8 +20,8 @@ unfolding pair_number record_after
 returns c =
     let just16 = c.if-record-ne-RESULT_SIZE.false in
     let answered = c.answer_pair-answer.ensures in
-    let number = c.from.ensures ∙ c.number_of.ensures in
-    let bytes = whole _ _ c.answer_pair-answer.result just16 c.write_result.ensures in
+    let number = c.from.ensures ∙ number_of_pair c.answer_pair-answer.result c.number_of.ensures in
+    let bytes = whole _ _ c.answer_pair-answer.result just16 (pair_stored _ _ 0 c.answer_pair-answer.result c.write_result.ensures) in
     record {
       number = simp (eq-eqb _ _ just16) (number ∙ ap number_of answered.value);
       bytes = simp (eq-eqb _ _ just16) (bytes ∙ ap record_of answered.value);
