@@ -30,10 +30,10 @@ unfolding decimal
 more_digits n h =
     rw (add-one n, le-ltb _ _ h) (ap (λ (front : List ℕ). front ++ digit n) (enough n (n / 10 + 1) (n / 10) (omega arith) (omega arith)))
 
-length_one : (n : ℕ) → n < 10 → length (decimal n) ≡ 1
+pub length_one : (n : ℕ) → n < 10 → length (decimal n) ≡ 1
 length_one n h = ap length (one_digit n h)
 
-length_more : (n : ℕ) → 10 ≤ n → length (decimal n) ≡ length (decimal (n / 10)) + 1
+pub length_more : (n : ℕ) → 10 ≤ n → length (decimal n) ≡ length (decimal (n / 10)) + 1
 length_more n h = ap length (more_digits n h) ∙ length-append (decimal (n / 10)) _
 
 pub as_printed : (n : ℕ) → n < 2 ^ 64 → decimal n ≡ printed.decimal n
