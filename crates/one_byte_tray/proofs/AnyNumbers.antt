@@ -11,7 +11,7 @@ use Rattle.laws.proofs.Order.{by_test}
 use Rattle.tray.specs.declared.refusal.Refusal.TheVariants.{NumberHeld}
 use Rattle.index.specs.Questions.{refusal}
 use Rattle.index.specs.ChosenAnswer.{answer_of}
-use Rattle.tray_places.specs.declared.samples.Sample.{Sample}
+use Rattle.tray_places.specs.Samples.{Sample}
 use Rattle.tray_places.specs.Places.{empty_tray, held_in}
 use Rattle.tray_places.specs.Counts.{one, times, numbered, same}
 use Rattle.tray_places.proofs.Held.{times_none, times_one}

@@ -6,8 +6,7 @@ use mathlib.Core.List.{List, [], ◌∷◌}
 use Rattle.std.specs.Prelude.{Option, Some, None}
 use Rattle.index.specs.ChosenAnswer.{answer_of}
 use Rattle.index_summary.specs.declared.Summary.{Summary}
-use Rattle.tray_places.specs.declared.samples.Sample.{Sample}
-use Rattle.tray_places.specs.Samples.{place_of, answer_from}
+use Rattle.tray_places.specs.Samples.{Sample, place_of, answer_from}
 use Rattle.tray_places.specs.Places.{places, numbers_of, freed, empty_tray, is_held, sample_at, is_held_as, is_free, first, among, held_in, place_of_number, free_place}
 use Rattle.tray_places.specs.Counts.{times, numbered}
 use Rattle.tray.specs.Tray.{sample_with, hold_refusal, put_refusal, take_refusal, put_answer, tray_after_put, take_answer, tray_after_take}

@@ -15,7 +15,7 @@ use Rattle.index.specs.ChosenAnswer.{answer_of}
 use Rattle.answer_record.specs.Bytes.{twos_complement, signed_of, stored}
 use Rattle.index_summary.specs.declared.Summary.{Summary}
 use Rattle.index_summary.specs.Summary.{alone_of, joined_of}
-use Rattle.tray_places.specs.declared.samples.Sample.{Sample}
+use Rattle.tray_places.specs.Samples.{Sample}
 use Rattle.tray.specs.declared.refusal.Refusal.{Refusal}
 use Rattle.tray.specs.Tray.{refusal_of, as_put}
 use Rattle.tray.specs.Calls.{Call, Put, Take, Ask, CallAnswer, ToPut, ToTake, ToAsk}

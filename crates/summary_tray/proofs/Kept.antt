@@ -23,7 +23,7 @@ use Rattle.index_summary.specs.Preconditions.{most, Within, is_within}
 use Rattle.index_summary.proofs.OneLess.{fits_passes, alone_not_between, joined_without}
 use Rattle.summary_block.specs.Block.{block_of, summary_from}
 use Rattle.summary_block.proofs.Blocks.{every_block, none_is_nothing}
-use Rattle.tray_places.specs.declared.samples.Sample.{Sample}
+use Rattle.tray_places.specs.Samples.{Sample}
 use Rattle.tray_places.specs.Places.{held_in}
 use Rattle.tray_places.proofs.Found.{held_most}
 use Rattle.tray.specs.declared.refusal.Refusal.{Refusal}

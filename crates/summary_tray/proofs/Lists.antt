@@ -24,7 +24,7 @@ use Rattle.index_summary.specs.Preconditions.{is_within}
 use Rattle.index_summary.proofs.OneLess.{lowest_kept, highest_kept}
 use Rattle.summary_block.specs.Block.{block_of, summary_from}
 use Rattle.summary_block.proofs.Blocks.{every_block}
-use Rattle.tray_places.specs.declared.samples.Sample.{Sample}
+use Rattle.tray_places.specs.Samples.{Sample}
 use Rattle.tray_places.specs.Places as layout
 use Rattle.tray_places.specs.Places.{place_at, held_in}
 use Rattle.tray_places.specs.Counts.{one, times, numbered, same}

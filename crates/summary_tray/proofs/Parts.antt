@@ -25,9 +25,8 @@ use Rattle.index_summary.specs.Preconditions.{most, Within, is_within}
 use Rattle.index_summary.proofs.OneLess.{passes}
 use Rattle.answer_record.proofs.Stores.{length_stored}
 use Rattle.summary_block.specs.Block.{block_length, block_of, summary_from}
-use Rattle.tray_places.specs.declared.samples.Sample.{Sample}
 use Rattle.tray_places.specs.declared.samples.Place.{Place}
-use Rattle.tray_places.specs.Samples.{place_of, sample_of}
+use Rattle.tray_places.specs.Samples.{Sample, place_of, sample_of}
 use Rattle.tray_places.specs.Places.{sample_at, place_of_number}
 use Rattle.tray_places.proofs.SamplesBack.{sample_again}
 use Rattle.tray.specs.declared.refusal.Refusal.{Refusal}

@@ -10,7 +10,7 @@ use Rattle.index_summary.specs.Summary as answers
 use Rattle.index_summary.specs.Summary.{joined_of, is_between, without_of}
 use Rattle.index_summary.specs.Preconditions.{is_within}
 use Rattle.summary_block.specs.Block.{block_of}
-use Rattle.tray_places.specs.declared.samples.Sample.{Sample}
+use Rattle.tray_places.specs.Samples.{Sample}
 use Rattle.tray_places.specs.Places as layout
 use Rattle.tray_places.specs.Places.{held_in}
 use Rattle.tray.specs.declared.refusal.Refusal.{Refusal}

@@ -8,9 +8,8 @@ use Rattle.index_summary.specs.declared.Summary.{Summary}
 use Rattle.index_summary.specs.Summary.{joined_of, is_between, without_of}
 use Rattle.index_summary.specs.Preconditions.{is_within}
 use Rattle.summary_block.specs.Block.{block_of, summary_from}
-use Rattle.tray_places.specs.declared.samples.Sample.{Sample}
 use Rattle.tray_places.specs.declared.samples.Place.{Place}
-use Rattle.tray_places.specs.Samples.{sample_of}
+use Rattle.tray_places.specs.Samples.{Sample, sample_of}
 use Rattle.tray_places.specs.Places.{held_in}
 use Rattle.tray.specs.declared.refusal.Refusal.{Refusal}
 use Rattle.tray.specs.declared.refusal.Refusal.TheVariants.{NotATray}

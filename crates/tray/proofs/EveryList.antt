@@ -16,7 +16,7 @@ use Rattle.index.specs.Questions.{refusal}
 use Rattle.index.specs.Answer.{Answer, RightAnswer}
 use Rattle.index.specs.ChosenAnswer.{answer_of}
 use Rattle.index.proofs.Right.{right}
-use Rattle.tray_places.specs.declared.samples.Sample.{Sample}
+use Rattle.tray_places.specs.Samples.{Sample}
 use Rattle.tray_places.specs.Places.{places, tray_size, empty_tray, sample_at, place_of_number, held_in}
 use Rattle.tray_places.specs.Counts.{one, times, numbered, same}
 use Rattle.tray_places.proofs.Held.{times_none, times_one, times_append}

@@ -22,9 +22,8 @@ use Rattle.answer_record.proofs.Signed.{twos_complement_fits}
 use Rattle.answer_record.proofs.Stores.{byte_kept}
 use Rattle.index_summary.specs.declared.Summary.{Summary}
 use Rattle.index_summary.proofs.OneLess.{joined_swapped, alone_swapped}
-use Rattle.tray_places.specs.declared.samples.Sample.{Sample}
 use Rattle.tray_places.specs.declared.samples.Place.{Place}
-use Rattle.tray_places.specs.Samples.{place_of, sample_of}
+use Rattle.tray_places.specs.Samples.{Sample, place_of, sample_of}
 use Rattle.tray_places.specs.Places.{places, place_size, tray_size, numbers_of, freed, place_at, is_held, sample_at, place_of_number, free_place, held_in}
 use Rattle.tray_places.proofs.Kept.{place_same, held_same, length_numbers, place_there, length_freed}
 use Rattle.tray_places.proofs.Found.{every_tray, none_free, free_is_free, found_is_held, apart}

@@ -21,10 +21,9 @@ use Rattle.index.specs.Answer.{RightAnswer}
 use Rattle.index.specs.ChosenAnswer.{answer_of}
 use Rattle.index.proofs.QuestionOrder.{number_most}
 use Rattle.answer_record.specs.Bytes.{stored}
-use Rattle.tray_places.specs.declared.samples.Sample.{Sample}
 use Rattle.tray_places.specs.declared.samples.Place.{Place}
 use Rattle.tray_places.specs.Places.{places, place_size, tray_size, numbers_of, freed, sample_at, place_of_number, free_place, held_in}
-use Rattle.tray_places.specs.Samples.{place_of}
+use Rattle.tray_places.specs.Samples.{Sample, place_of}
 use Rattle.tray_places.proofs.Found.{some_free, none_free, number_held, number_not_held}
 use Rattle.tray.specs.declared.refusal.Refusal.{Refusal}
 use Rattle.tray.specs.declared.refusal.Refusal.TheVariants.{NotATray, Pair, NumberHeld, TrayFull, NumberNotHeld}

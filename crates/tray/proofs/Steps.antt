@@ -16,8 +16,7 @@ use Rattle.index.specs.ChosenAnswer.{answer_of}
 use Rattle.index.proofs.Right.{right}
 use Rattle.answer_record.specs.Bytes.{stored}
 use Rattle.answer_record.proofs.Stores.{length_stored}
-use Rattle.tray_places.specs.declared.samples.Sample.{Sample}
-use Rattle.tray_places.specs.Samples.{place_of}
+use Rattle.tray_places.specs.Samples.{Sample, place_of}
 use Rattle.tray_places.specs.Places.{places, place_size, tray_size, numbers_of, freed, sample_at, place_of_number, free_place, held_in}
 use Rattle.tray_places.specs.Counts.{one, times, numbered}
 use Rattle.tray_places.proofs.Held.{times_none, times_one}

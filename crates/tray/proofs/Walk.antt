@@ -19,9 +19,8 @@ use Rattle.index_summary.specs.Preconditions.{Within}
 use Rattle.index_summary.proofs.Fits.{joined_within, nothing_within, within_more}
 use Rattle.index_summary.proofs.Right.{count_last, alone_right, joined_nothing, joined_right}
 use Rattle.answer_record.specs.Bytes.{signed_of}
-use Rattle.tray_places.specs.declared.samples.Sample.{Sample}
 use Rattle.tray_places.specs.declared.samples.Place.{Place}
-use Rattle.tray_places.specs.Samples.{answer_from, sample_of}
+use Rattle.tray_places.specs.Samples.{Sample, answer_from, sample_of}
 use Rattle.tray_places.specs.Places.{places, tray_size, places_in, is_held, sample_at, among, held_in}
 use Rattle.tray_places.proofs.Searches.{place_is, free_is}
 use Rattle.tray_places.proofs.Held.{among_zero, next_free, next_held}

@@ -2,7 +2,7 @@
 use Rattle.std.specs.Prelude.{ℕ, List, [], ◌∷◌, ◌++◌, Option, Result, Ok, Err}
 use Rattle.index.specs.declared.answer.Index.{Index}
 use Rattle.index_summary.specs.declared.Summary.{Summary}
-use Rattle.tray_places.specs.declared.samples.Sample.{Sample}
+use Rattle.tray_places.specs.Samples.{Sample}
 use Rattle.tray.specs.declared.refusal.Refusal.{Refusal}
 use Rattle.tray.specs.Tray.{number_of_refusal, sample_with, put_answer, tray_after_put, take_answer, tray_after_take}
 use Rattle.tray.specs.State.{state_of}

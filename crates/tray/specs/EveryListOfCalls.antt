@@ -6,7 +6,7 @@ use Rattle.reference.specs.Refusal as pair
 use Rattle.index.specs.Questions.{refusal}
 use Rattle.index.specs.Answer.{RightAnswer}
 use Rattle.index.specs.ChosenAnswer.{answer_of}
-use Rattle.tray_places.specs.declared.samples.Sample.{Sample}
+use Rattle.tray_places.specs.Samples.{Sample}
 use Rattle.tray_places.specs.Places.{empty_tray, held_in}
 use Rattle.tray_places.specs.Counts.{one, times, numbered, same}
 use Rattle.tray.specs.declared.refusal.Refusal.TheVariants.{NotATray, Pair, NumberHeld, TrayFull, NumberNotHeld}

@@ -4,7 +4,7 @@ use Rattle.index.specs.Answer.{Answer}
 use Rattle.std.specs.Prelude.{ℕ, ◌+◌, ◌≡◌, cond, List, [], ◌∷◌, map, length, Option, Some, None, Result, Ok, Err}
 use Rattle.index_summary.specs.declared.Summary.{Summary}
 use Rattle.index_summary.specs.Summary.{alone_of, joined_of, nothing, is_of_none, SummaryOf}
-use Rattle.tray_places.specs.declared.samples.Sample.{Sample}
+use Rattle.tray_places.specs.Samples.{Sample}
 use Rattle.tray_places.specs.Places.{is_held, sample_at, held_in}
 use Rattle.tray.specs.declared.refusal.Refusal.{Refusal}
 use Rattle.tray.specs.declared.refusal.Refusal.TheVariants.{NotATray}

@@ -9,9 +9,8 @@ use Rattle.index.specs.declared.answer.Index.{Index}
 use Rattle.index.specs.Questions.{refusal}
 use Rattle.index.specs.ChosenAnswer.{answer_of}
 use Rattle.answer_record.specs.Bytes.{stored}
-use Rattle.tray_places.specs.declared.samples.Sample.{Sample}
 use Rattle.tray_places.specs.declared.samples.Place.{Place}
-use Rattle.tray_places.specs.Samples.{place_of}
+use Rattle.tray_places.specs.Samples.{Sample, place_of}
 use Rattle.tray_places.specs.Places.{places, place_size, tray_size, numbers_of, freed, sample_at, place_of_number, free_place, held_in}
 use Rattle.tray_places.specs.Counts.{times, numbered}
 use Rattle.tray.specs.declared.refusal.Refusal.{Refusal}

@@ -44,7 +44,7 @@ pub fn put(tray: &mut [u32], number: u32, u: u32, y: u32) -> Result<Index, Refus
         number,
         u,
         y,
-        answer: Ok(index),
+        answer: index::Answer::Ok(index),
     });
     hold(tray, number, place)?;
     Ok(index)

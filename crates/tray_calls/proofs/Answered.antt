@@ -3,7 +3,7 @@ use Rattle.laws.proofs.Contradiction.{not_some}
 use Rattle.reference.specs.Refusal as of_pair
 use Rattle.reference.proofs.Refusals.{numbered_refusals}
 use Rattle.index.proofs.QuestionOrder.{number_most}
-use Rattle.tray_places.specs.declared.samples.Sample.{Sample}
+use Rattle.tray_places.specs.Samples.{Sample}
 use mathlib.Core.Bool.{Bool}
 use Rattle.answer_record.specs.Record.{record_of}
 use Prim.Native.Nat.{ℕ, ◌+◌, ◌<◌}

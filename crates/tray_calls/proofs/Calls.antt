@@ -21,9 +21,8 @@ use Rattle.answer_record.specs.Record.{result_size, method_offset, index_offset,
 use Rattle.answer_record.proofs.Fields.{laid_refusal, laid_method, laid_index, laid_lower, laid_upper}
 use Rattle.answer_record.proofs.Signed.{twos_complement_fits}
 use Rattle.index_summary.specs.declared.Summary.{Summary}
-use Rattle.tray_places.specs.declared.samples.Sample.{Sample}
 use Rattle.tray_places.specs.declared.samples.Place.{Place}
-use Rattle.tray_places.specs.Samples.{place_of}
+use Rattle.tray_places.specs.Samples.{Sample, place_of}
 use Rattle.tray.specs.declared.refusal.Refusal.{Refusal}
 use Rattle.tray.specs.Tray.{number_of_refusal, sample_with}
 use Rattle.tray.specs.Calls.{refused_by}

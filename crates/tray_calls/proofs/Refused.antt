@@ -13,7 +13,7 @@ use Rattle.laws.proofs.Order.{by_test}
 use Rattle.answer_record.specs.Record.{result_size}
 use Rattle.index_summary.specs.declared.Summary.{Summary}
 use Rattle.index_summary.specs.Summary.{SummaryOf}
-use Rattle.tray_places.specs.declared.samples.Sample.{Sample}
+use Rattle.tray_places.specs.Samples.{Sample}
 use Rattle.tray_places.specs.Places.{held_in}
 use Rattle.tray.specs.declared.refusal.Refusal.{Refusal}
 use Rattle.tray.specs.Tray.{number_of_refusal}

@@ -6,7 +6,7 @@ use Rattle.index.specs.ChosenAnswer.{answer_of}
 use Rattle.answer_record.specs.Record.{record_of, RecordOfPair}
 use Rattle.index_summary.specs.declared.Summary.{Summary}
 use Rattle.index_summary.specs.Summary.{SummaryOf}
-use Rattle.tray_places.specs.declared.samples.Sample.{Sample}
+use Rattle.tray_places.specs.Samples.{Sample}
 use Rattle.tray_places.specs.Places.{held_in}
 use Rattle.tray_places.specs.Counts.{one, times}
 use Rattle.tray.specs.Tray.{held_as}

@@ -11,8 +11,7 @@ use lib.ListN.{length, replicate, length-replicate, get_or-replicate}
 use Rattle.laws.proofs.Computed.{both_pass}
 use Rattle.laws.proofs.Order.{by_order}
 use Rattle.answer_record.specs.Bytes.{stored}
-use Rattle.tray_places.specs.declared.samples.Sample.{Sample}
-use Rattle.tray_places.specs.Samples.{sample_of}
+use Rattle.tray_places.specs.Samples.{Sample, sample_of}
 use Rattle.tray_places.specs.Places.{places, place_size, tray_size, empty_tray, is_free, is_held, has_number, is_held_as, number_in, sample_at, place_of_number, free_place, held_in, EveryTray, Zeros}
 use Rattle.tray_places.specs.Counts.{one, times, numbered}
 use Rattle.tray_places.proofs.First.{first_passes, none_passes, none_before}

@@ -6,7 +6,7 @@ use mathlib.Core.List.{List, [], ◌∷◌, ◌++◌}
 use native.Mathlib.Omega.{arith}
 use lib.ListN.{length, length-append}
 use Rattle.laws.proofs.Order.{by_test, by_order}
-use Rattle.tray_places.specs.declared.samples.Sample.{Sample}
+use Rattle.tray_places.specs.Samples.{Sample}
 use Rattle.tray_places.specs.Places.{among}
 use Rattle.tray_places.specs.Counts.{one, times}
 

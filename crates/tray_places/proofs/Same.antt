@@ -18,7 +18,7 @@ use Rattle.shown_index.specs.declared.Mark.TheVariants as mark
 use Rattle.shown_index.specs.declared.ByB.{ByB}
 use Rattle.index.specs.declared.answer.Index.TheVariants as answer
 use Rattle.index.specs.Answer.{Answer, number_of, method_of, method_of_mark, index_of, lower_of, upper_of}
-use Rattle.tray_places.specs.declared.samples.Sample.{Sample}
+use Rattle.tray_places.specs.Samples.{Sample}
 use Rattle.tray_places.specs.Counts.{one, times, numbered, same_index, same_answer, same, SameSample}
 
 -- ---- an answer is what its fields say

@@ -21,8 +21,7 @@ use Rattle.index.proofs.Fits.{Fits, fits}
 use Rattle.index.proofs.Right.{right}
 use Rattle.answer_record.specs.Bytes.{twos_complement, stored}
 use Rattle.answer_record.proofs.Signed.{signed_back}
-use Rattle.tray_places.specs.declared.samples.Sample.{Sample}
-use Rattle.tray_places.specs.Samples.{place_of, answer_from, sample_of}
+use Rattle.tray_places.specs.Samples.{Sample, place_of, answer_from, sample_of}
 use Rattle.tray_places.specs.Places.{place_size, numbers_of, is_held, sample_at}
 use Rattle.tray_places.proofs.Kept.{place_there, held_there}
 use Rattle.tray_places.proofs.Same.{mark_method}

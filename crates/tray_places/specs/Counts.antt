@@ -2,7 +2,7 @@
 use Rattle.std.specs.Prelude.{ℕ, ◌+◌, ◌≡◌, Bool, true, cond, ◌&&◌, List, [], ◌∷◌, eqb, ℤ}
 use Rattle.std.specs.Int.Signed.{le_z}
 use Rattle.index.specs.Answer.{Answer, number_of, method_of, index_of, lower_of, upper_of}
-use Rattle.tray_places.specs.declared.samples.Sample.{Sample}
+use Rattle.tray_places.specs.Samples.{Sample}
 
 abbrev pub one : Bool → ℕ
 one b = cond b 1 0

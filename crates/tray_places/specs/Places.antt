@@ -6,9 +6,8 @@ use Rattle.std.specs.Simd.{first_chunks}
 use Rattle.index.specs.Questions.{refusal}
 use Rattle.index.specs.ChosenAnswer.{answer_of}
 use Rattle.answer_record.specs.Bytes.{stored}
-use Rattle.tray_places.specs.declared.samples.Sample.{Sample}
 use Rattle.tray_places.specs.declared.samples.Place.{Place}
-use Rattle.tray_places.specs.Samples.{place_of, sample_of}
+use Rattle.tray_places.specs.Samples.{Sample, place_of, sample_of}
 
 -- how many places a tray has, how many numbers a place, and how many numbers the places
 abbrev pub places : ℕ

@@ -4,16 +4,16 @@ ghost use Rattle.tray_places.specs.Samples.{mark_from, answer_from, sample_of, p
 
 use answer_record::Record;
 use index::answer::{METHOD_A, METHOD_B_SETTLED};
-use index::{Answer, Index};
+use index::{Answer, Index, Refusal};
 use shown_index::{ByB, Mark};
 
-// A sample: its number, its pair and its answer.
+// A sample: its number, its pair and its answer, as a pair's own unless another type of refusals is named.
 #[derive(Clone, Copy, Debug, PartialEq, Eq)]
-pub struct Sample {
+pub struct Sample<R = Refusal> {
     pub number: u32,
     pub u: u32,
     pub y: u32,
-    pub answer: Answer,
+    pub answer: Result<Index, R>,
 }
 
 // A sample as a place has it: the method, 0 where the place is free; the number; the pair; the index as 32 bits; p and P.
@@ -71,11 +71,11 @@ impl From<Place> for Sample {
 }
 
 // The place that says a sample.
-impl From<Sample> for Place {
+impl<R: Copy + Into<u8>> From<Sample<R>> for Place {
     ghost from_gives = { λ sample place. place ≡ place_of sample };
 
     #[tactic(auto, unfolding(crate::specs::Samples::place_of))]
-    fn from(sample: Sample) -> Place {
+    fn from(sample: Sample<R>) -> Place {
         let fields = Record::from(sample.answer);
         Place {
             method: u32::from(fields.method),
