@@ -5,7 +5,9 @@ use lib.IntN.{ℤ, pos, negsuc, ◌+ℤ◌}
 use lib.Signed.{mag}
 use Rattle.std.specs.Int.{int_min, int_max}
 use Rattle.laws.specs.Bits.{span32}
-use Rattle.index.specs.Answer.{Answer, index_of, method_of}
+use Rattle.index.specs.declared.answer.Index.{Index}
+use Rattle.index.specs.Answer.{index_of, method_of}
+use Rattle.std.specs.Prelude.{Result}
 use Rattle.index_summary.specs.declared.Summary.{Summary}
 use Rattle.index_summary.specs.Summary.{one, method_a, method_settled, method_near, joined_of, nothing}
 use Rattle.index_summary.specs.Preconditions.{Within}
@@ -29,7 +31,7 @@ min_mag a b m p q = grind arith
 max_mag : (a b : ℤ) (m : ℕ) → mag a ≤ m → mag b ≤ m → mag (int_max a b) ≤ m
 max_mag a b m p q = grind arith
 
-module _ (n : ℕ) (x : Answer) (small : mag (index_of x) < span32) where
+module _ {R : Type 0} (n : ℕ) (x : Result Index R) (small : mag (index_of x) < span32) where
   pub joined_within : (t : Summary) → Within n t → Within (suc n) (joined_of t x)
   unfolding joined_of
   joined_within t w = record {

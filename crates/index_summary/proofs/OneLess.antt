@@ -7,7 +7,9 @@ use lib.IntN.{ℤ, ◌+ℤ◌, +ℤ_comm}
 use lib.Signed.{◌≤ℤ◌}
 use Rattle.std.proofs.lemmas.Int.{ints, clamps}
 use Rattle.std.specs.Int.{int_min, int_max}
-use Rattle.index.specs.Answer.{Answer, index_of}
+use Rattle.index.specs.declared.answer.Index.{Index}
+use Rattle.index.specs.Answer.{index_of}
+use Rattle.std.specs.Prelude.{Result}
 use Rattle.index_summary.specs.declared.Summary.{Summary}
 use Rattle.index_summary.specs.Summary.{alone_of, joined_of, is_above, is_between, sum_without, count_without, without_of}
 use Rattle.index_summary.specs.Preconditions.{most, Within, is_within}
@@ -27,7 +29,7 @@ fits_passes n t l v =
 
 -- ---- the order in which answers are added
 
-pub joined_swapped : (t : Summary) (x y : Answer) → joined_of (joined_of t x) y ≡ joined_of (joined_of t y) x
+pub joined_swapped : {R : Type 0} (t : Summary) (x y : Result Index R) → joined_of (joined_of t x) y ≡ joined_of (joined_of t y) x
 unfolding joined_of
 joined_swapped t x y =
     let lowest : (a b c : ℤ) → int_min (int_min a b) c ≡ int_min (int_min a c) b = λ a b c. omega (arith, ints, clamps) in
@@ -36,7 +38,7 @@ joined_swapped t x y =
     let count : (a b c : ℕ) → a + b + c ≡ a + c + b = λ a b c. omega arith in
     grind (arith, lowest, highest, sum, count)
 
-pub alone_swapped : (x y : Answer) → joined_of (alone_of x) y ≡ joined_of (alone_of y) x
+pub alone_swapped : {R : Type 0} (x y : Result Index R) → joined_of (alone_of x) y ≡ joined_of (alone_of y) x
 unfolding joined_of alone_of
 alone_swapped x y =
     let lowest : (a b : ℤ) → int_min a b ≡ int_min b a = λ a b. omega (arith, ints, clamps) in
@@ -57,7 +59,7 @@ highest_kept a i h = omega (arith, ints, clamps)
 not_above_itself : (z : ℤ) → is_above z z ≡ false
 not_above_itself z = grind (arith, ints)
 
-pub alone_not_between : (x : Answer) → is_between (alone_of x) x ≡ false
+pub alone_not_between : {R : Type 0} (x : Result Index R) → is_between (alone_of x) x ≡ false
 unfolding alone_of
 alone_not_between x = rw (not_above_itself (index_of x))
 
@@ -73,6 +75,6 @@ sum_left a i = omega (arith, ints)
 count_left : (a b : ℕ) → count_without (a + b) b ≡ a
 count_left a b = omega arith
 
-pub joined_without : (t : Summary) (x : Answer) → is_between (joined_of t x) x ≡ true → without_of (joined_of t x) x ≡ t
+pub joined_without : {R : Type 0} (t : Summary) (x : Result Index R) → is_between (joined_of t x) x ≡ true → without_of (joined_of t x) x ≡ t
 unfolding joined_of without_of
 joined_without t x h = grind (arith, lowest_left, highest_left, sum_left, count_left)

@@ -11,7 +11,9 @@ use Rattle.std.proofs.lemmas.Int.{ints, clamps}
 use Rattle.std.specs.Int.{int_min, int_max}
 use Rattle.laws.specs.Bits.{span32}
 use Rattle.laws.proofs.Difference.{order_joins}
-use Rattle.index.specs.Answer.{Answer, index_of, method_of}
+use Rattle.index.specs.declared.answer.Index.{Index}
+use Rattle.index.specs.Answer.{index_of, method_of}
+use Rattle.std.specs.Prelude.{Result}
 use Rattle.index_summary.specs.declared.Summary.{Summary}
 use Rattle.index_summary.specs.Summary.{one, alone_of, joined_of, above_all, below_all, nothing, All, Some, sum_of, count_of, SummaryOf}
 
@@ -38,32 +40,32 @@ module _ (a b : ℤ) where
 
 -- ---- one answer more at the end
 
-all_more : (P Q : Answer → Type 0) (xs : List Answer) (y : Answer) → ((x : Answer) → P x → Q x) → All P xs → Q y → All Q (xs ++ (y ∷ []))
+all_more : {R : Type 0} (P Q : Result Index R → Type 0) (xs : List (Result Index R)) (y : Result Index R) → ((x : Result Index R) → P x → Q x) → All P xs → Q y → All Q (xs ++ (y ∷ []))
 all_more P Q [] y f a q = (q, tt)
 all_more P Q (x ∷ xs) y f a q = (f x a.0, all_more P Q xs y f a.1 q)
 
-some_kept : (P Q : Answer → Type 0) (xs ys : List Answer) → ((x : Answer) → P x → Q x) → Some P xs → Some Q (xs ++ ys)
+some_kept : {R : Type 0} (P Q : Result Index R → Type 0) (xs ys : List (Result Index R)) → ((x : Result Index R) → P x → Q x) → Some P xs → Some Q (xs ++ ys)
 some_kept P Q [] ys f a = absurd a
 some_kept P Q (x ∷ xs) ys f (inl p) = inl (f x p)
 some_kept P Q (x ∷ xs) ys f (inr a) = inr (some_kept P Q xs ys f a)
 
-some_last : (Q : Answer → Type 0) (xs : List Answer) (y : Answer) → Q y → Some Q (xs ++ (y ∷ []))
+some_last : {R : Type 0} (Q : Result Index R → Type 0) (xs : List (Result Index R)) (y : Result Index R) → Q y → Some Q (xs ++ (y ∷ []))
 some_last Q [] y q = inl q
 some_last Q (x ∷ xs) y q = inr (some_last Q xs y q)
 
-sum_last : (xs : List Answer) (y : Answer) → sum_of (xs ++ (y ∷ [])) ≡ sum_of xs +ℤ index_of y
+sum_last : {R : Type 0} (xs : List (Result Index R)) (y : Result Index R) → sum_of (xs ++ (y ∷ [])) ≡ sum_of xs +ℤ index_of y
 unfolding sum_of
 sum_last [] y = omega (arith, ints)
 sum_last (x ∷ xs) y = omega (arith, ints, sum_last xs y)
 
-pub count_last : (method : ℕ) (xs : List Answer) (y : Answer) → count_of method (xs ++ (y ∷ [])) ≡ count_of method xs + one (method_of y) method
+pub count_last : {R : Type 0} (method : ℕ) (xs : List (Result Index R)) (y : Result Index R) → count_of method (xs ++ (y ∷ [])) ≡ count_of method xs + one (method_of y) method
 unfolding count_of
 count_last method [] y = omega arith
 count_last method (x ∷ xs) y = omega (arith, count_last method xs y)
 
 -- ---- summaries
 
-pub alone_right : (x : Answer) → SummaryOf (x ∷ []) (alone_of x)
+pub alone_right : {R : Type 0} (x : Result Index R) → SummaryOf (x ∷ []) (alone_of x)
 unfolding alone_of sum_of count_of
 alone_right x = record {
   lowest_least = (≤ℤ_refl (index_of x), tt);
@@ -85,11 +87,11 @@ max_nothing : (i : ℤ) → mag i < span32 → int_max below_all i ≡ i
 max_nothing (pos n) h = refl
 max_nothing (negsuc n) h = omega (arith, ints, clamps)
 
-pub joined_nothing : (x : Answer) → mag (index_of x) < span32 → joined_of nothing x ≡ alone_of x
+pub joined_nothing : {R : Type 0} (x : Result Index R) → mag (index_of x) < span32 → joined_of nothing x ≡ alone_of x
 unfolding joined_of alone_of
 joined_nothing x h = grind (arith, lesser_nothing, max_nothing, +ℤ_idl, zero-add)
 
-pub joined_right : (xs : List Answer) (t : Summary) (y : Answer) → SummaryOf xs t → SummaryOf (xs ++ (y ∷ [])) (joined_of t y)
+pub joined_right : {R : Type 0} (xs : List (Result Index R)) (t : Summary) (y : Result Index R) → SummaryOf xs t → SummaryOf (xs ++ (y ∷ [])) (joined_of t y)
 unfolding joined_of
 joined_right xs t y r =
     let i = index_of y in

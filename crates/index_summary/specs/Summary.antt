@@ -4,7 +4,7 @@ use Rattle.std.specs.Prelude.{ℕ, ◌+◌, ◌-◌, ◌≡◌, ◌⊎◌, Bool,
 use Rattle.std.specs.Int.{int_min, int_max}
 use Rattle.std.specs.Int.Signed.{lt_z}
 use Rattle.index.specs.declared.answer.Index.{Index}
-use Rattle.index.specs.Answer.{Answer, index_of, method_of}
+use Rattle.index.specs.Answer.{index_of, method_of}
 use Rattle.index_summary.specs.declared.Summary as declared
 
 -- ---- the walk
@@ -89,25 +89,25 @@ without_of t answer = record {
 -- ---- when a summary is right
 
 -- every answer of a list, and some answer of it
-abbrev pub All : (Answer → Type 0) → List Answer → Type 0
+abbrev pub All : {R : Type 0} → (Result Index R → Type 0) → List (Result Index R) → Type 0
 All P [] = Unit
 All P (answer ∷ answers) = P answer × All P answers
 
-abbrev pub Some : (Answer → Type 0) → List Answer → Type 0
+abbrev pub Some : {R : Type 0} → (Result Index R → Type 0) → List (Result Index R) → Type 0
 Some P [] = ⊥
 Some P (answer ∷ answers) = P answer ⊎ Some P answers
 
-unfoldable pub sum_of : List Answer → ℤ
+unfoldable pub sum_of : {R : Type 0} → List (Result Index R) → ℤ
 sum_of [] = pos 0
 sum_of (answer ∷ answers) = index_of answer +ℤ sum_of answers
 
 -- how many are by a method
-unfoldable pub count_of : ℕ → List Answer → ℕ
+unfoldable pub count_of : {R : Type 0} → ℕ → List (Result Index R) → ℕ
 count_of method [] = 0
 count_of method (answer ∷ answers) = cond (eqb (method_of answer) method) 1 0 + count_of method answers
 
 -- the lowest index is at or below every index and is one of them, the highest likewise; the sum is of all, and each count is of its method
-pub record SummaryOf (answers : List Answer) (t : declared.Summary) : Type 0 where
+pub record SummaryOf {R : Type 0} (answers : List (Result Index R)) (t : declared.Summary) : Type 0 where
   pub lowest_least : All (λ answer. t.lowest ≤ℤ index_of answer) answers
   pub lowest_held : Some (λ answer. t.lowest ≡ index_of answer) answers
   pub highest_most : All (λ answer. index_of answer ≤ℤ t.highest) answers
