@@ -37,7 +37,7 @@ use Rattle.tray.proofs.EveryList.{put_alone, every_call}
 use Rattle.tray.proofs.Questions.{refusal_some, answered_err, answered_ok}
 use Rattle.tray.proofs.Questions as questions
 use Rattle.tray.proofs.Steps.{refused_33, take_answered, call_step}
-use Rattle.summary_tray.specs.SummaryTray.{places_size, tray_size, places_in, kept_in, with_one, says_rest, without_one, put_answer, tray_with, tray_putting, tray_after_put, hold_refusal, hold_answer, tray_holding, take_answer, tray_without, tray_after_take}
+use Rattle.summary_tray.specs.SummaryTray.{places_size, tray_size, places_in, kept_in, with_one, says_rest, without_one, put_answer, tray_with, tray_putting, tray_after_put, hold_refusal, hold_answer, HoldAnswer, tray_holding, tray_holding_unless, take_answer, tray_without, tray_after_take}
 
 -- ---- the parts of the lent memory
 
@@ -103,28 +103,51 @@ module _ (l : List ℕ) (n : ℕ) where
     whole same = ap (λ (q : List ℕ). q ++ drop places_size l) same ∙ take-append-drop places_size l
 
     -- ---- a place that is stored
-    module _ (place : Place) {p : List ℕ} (p-is : p ≡ places.tray_holding (places_in l) n 0 place) where
-      hold_size : length p ≡ places_size
+    module _ (place : Place) where
+      abbrev held_places : List ℕ
+      held_places = places.tray_holding (places_in l) n 0 place
+
+      hold_size : length held_places ≡ places_size
       unfolding places.tray_holding
       hold_size =
           by_test (eqb (places.hold_refusal (places_in l) n 0) 0)
-          (λ e. ap length p-is ∙ rw e (length_stored (places_in l) _ _ ∙ length_places l h))
-          (λ e. ap length p-is ∙ rw e (length_places l h))
+          (λ e. rw e (length_stored (places_in l) _ _ ∙ length_places l h))
+          (λ e. rw e (length_places l h))
 
-      pub hold_refused : {r : Refusal} → Err r ≡ hold_answer l n → p ++ drop places_size l ≡ tray_holding l n 0 place
+      questions_refuse : {r : Refusal} → Err r ≡ hold_answer l n → (held_places ≡ places_in l) × (tray_holding l n 0 place ≡ l)
       unfolding places.hold_answer tray_holding places.tray_holding
-      hold_refused {r} e =
+      questions_refuse {r} e =
           let told = answered_err (hold_refusal l n 0) tt e in
           let no = ne_eqb (hold_refusal l n 0) 0 (λ (z : hold_refusal l n 0 ≡ 0). omega (arith, told.1)) in
-          rw no (whole (rw no at p-is))
+          (rw no refl, rw no refl)
 
-      pub hold_kept : (a : Answer) {after : List ℕ} → a ≡ (sample_of place).answer → Ok tt ≡ hold_answer l n
-          → after ≡ places_in (p ++ drop places_size l) ++ block_of (with_one (kept_in (p ++ drop places_size l)) a (places_in (p ++ drop places_size l)))
-          → after ≡ tray_holding l n 0 place
+      questions_pass : Ok tt ≡ hold_answer l n → tray_holding l n 0 place ≡ tray_with l held_places (sample_of place).answer
       unfolding places.hold_answer tray_holding
-      hold_kept a a_is z e =
-          let none : hold_refusal l n 0 ≡ 0 = answered_ok (hold_refusal l n 0) tt z in
-          rw none (e ∙ kept_with l h p hold_size a ∙ ap₂ (tray_with l) p-is a_is)
+      questions_pass z = let none : hold_refusal l n 0 ≡ 0 = answered_ok (hold_refusal l n 0) tt z in rw none refl
+
+      -- behind what the pair's own questions said
+      module _ {R : Type 0} (told : Refusal → R → Type 0) where
+        pub hold_refused : (pair : Result (Unit {0}) R) (refusal : R) {p : List ℕ} → HoldAnswer told l n pair (Err refusal)
+            → p ≡ places.tray_holding_unless (places_in l) n pair place → p ++ drop places_size l ≡ tray_holding_unless l n pair place
+        hold_refused (Err q) refusal t p-is = whole p-is
+        hold_refused (Ok done) refusal {p} t p-is = by_held (hold_answer l n) refl t
+          where
+            by_held : (held : Result (Unit {0}) Refusal) → held ≡ hold_answer l n → places.Told told held (Err refusal)
+                → p ++ drop places_size l ≡ tray_holding l n 0 place
+            by_held (Err r) is t = let both = questions_refuse is in whole (p-is ∙ both.0) ∙ sym both.1
+            by_held (Ok done) is t = absurd cc
+
+        pub hold_kept : (pair : Result (Unit {0}) R) (a : Answer) {p after : List ℕ} → HoldAnswer told l n pair (Ok tt)
+            → p ≡ places.tray_holding_unless (places_in l) n pair place → a ≡ (sample_of place).answer
+            → after ≡ places_in (p ++ drop places_size l) ++ block_of (with_one (kept_in (p ++ drop places_size l)) a (places_in (p ++ drop places_size l)))
+            → after ≡ tray_holding_unless l n pair place
+        hold_kept (Err q) a t p-is a_is e = absurd cc
+        hold_kept (Ok done) a {p} {after} t p-is a_is e = by_held (hold_answer l n) refl t
+          where
+            by_held : (held : Result (Unit {0}) Refusal) → held ≡ hold_answer l n → places.Told told held (Ok tt) → after ≡ tray_holding l n 0 place
+            by_held (Err r) is t = absurd t
+            by_held (Ok done) is t =
+                e ∙ kept_with l h p (ap length p-is ∙ hold_size) a ∙ ap₂ (tray_with l) p-is a_is ∙ sym (questions_pass is)
 
     -- ---- the place of an answered pair: what its questions answer is what a put answers
     module _ (u y : ℕ) where

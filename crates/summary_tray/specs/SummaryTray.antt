@@ -94,10 +94,18 @@ hold_refusal tray number pair = places.hold_refusal (places_in tray) number pair
 abbrev pub hold_answer : List ℕ → ℕ → Result (Unit {0}) Refusal
 hold_answer tray number = places.hold_answer (places_in tray) number
 
+-- and behind what the pair's own questions said
+abbrev pub HoldAnswer : {R : Type 0} → (Refusal → R → Type 0) → List ℕ → ℕ → Result (Unit {0}) R → Result (Unit {0}) R → Type 0
+HoldAnswer told tray number pair result = places.HoldAnswer told (places_in tray) number pair result
+
 unfoldable pub tray_holding : List ℕ → ℕ → ℕ → Place → List ℕ
 tray_holding tray number pair place =
     cond (eqb (hold_refusal tray number pair) 0)
     (tray_with tray (places.tray_holding (places_in tray) number pair place) (sample_of place).answer) tray
+
+abbrev pub tray_holding_unless : {R : Type 0} → List ℕ → ℕ → Result (Unit {0}) R → Place → List ℕ
+tray_holding_unless tray number (Err refusal) place = tray
+tray_holding_unless tray number (Ok done) place = tray_holding tray number 0 place
 
 -- ---- taking out
 

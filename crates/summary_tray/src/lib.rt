@@ -6,7 +6,7 @@
 mod keep;
 
 ghost use Rattle.std.specs.Prelude.{◌≡◌};
-ghost use Rattle.summary_tray.specs.SummaryTray.{hold_answer, tray_holding, put_answer, tray_after_put, take_answer, tray_after_take, state_of};
+ghost use Rattle.summary_tray.specs.SummaryTray.{HoldAnswer, tray_holding_unless, put_answer, tray_after_put, take_answer, tray_after_take, state_of};
 
 use index::Index;
 use keep::{keep_with, keep_without, kept};
@@ -19,12 +19,17 @@ const PLACES_SIZE: usize = tray::TRAY_SIZE;
 
 pub const TRAY_SIZE: usize = PLACES_SIZE + BLOCK_LENGTH;
 
-// Stores a place under its number, unless the number is held already or no place is free, as `tray::hold` does, and keeps the summary.
-pub fn hold(tray: &mut [u32; TRAY_SIZE], number: u32, place: Place) -> Result<(), Refusal>
-    ensures answer { result ≡ hold_answer tray.old number }
-    ensures numbers { tray.new ≡ tray_holding tray.old number 0 place }
+// Stores a place under its number, unless a question refuses it, as `tray::hold` does, and keeps the summary.
+pub fn hold<R: From<Refusal> + Drop>(
+    tray: &mut [u32; TRAY_SIZE],
+    number: u32,
+    pair: Result<(), R>,
+    place: Place,
+) -> Result<(), R>
+    ensures answer { HoldAnswer R.from_gives tray.old number pair result }
+    ensures numbers { tray.new ≡ tray_holding_unless tray.old number pair place }
 {
-    tray::hold(tray.first_chunk_mut().unwrap(), number, place)?;
+    tray::hold(tray.first_chunk_mut().unwrap(), number, pair, place)?;
     keep_with(tray, place.answer());
     Ok(())
 }

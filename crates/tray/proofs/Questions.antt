@@ -8,7 +8,8 @@ use native.Mathlib.Nat.{le_of_eq}
 use borrow.Author.Tests.{lt-ltb, le-ltb, lt-leb, le-leb, eq-eqb, ne_eqb}
 use lib.Dec.{eqb, ltb, leb}
 use lib.ListN.{length}
-use Rattle.std.specs.Prelude.{Result, Ok, Err}
+use Rattle.std.specs.Prelude.{Result, Ok, Err, IsErrAnd}
+use Rattle.std.specs.Result.{result_and}
 use Rattle.laws.specs.Questions.{ask}
 use Rattle.laws.proofs.Order.{by_order}
 use Rattle.reference.specs.declared.refusal.Refusal.TheVariants.{ThinAt100, ThickAt100, ThickAt40, NotThicker}
@@ -17,7 +18,7 @@ use Rattle.reference.specs.Refusal as pair
 use Rattle.reference.proofs.Refusals.{numbered_refusals}
 use Rattle.index.specs.declared.answer.Index.{Index}
 use Rattle.index.specs.Questions.{refusal}
-use Rattle.index.specs.Answer.{RightAnswer}
+use Rattle.index.specs.Answer.{Answer, RightAnswer}
 use Rattle.index.specs.ChosenAnswer.{answer_of}
 use Rattle.index.proofs.QuestionOrder.{number_most}
 use Rattle.answer_record.specs.Bytes.{stored}
@@ -27,7 +28,7 @@ use Rattle.tray_places.specs.Samples.{Sample, place_of}
 use Rattle.tray_places.proofs.Found.{some_free, none_free, number_held, number_not_held}
 use Rattle.tray.specs.declared.refusal.Refusal.{Refusal}
 use Rattle.tray.specs.declared.refusal.Refusal.TheVariants.{NotATray, Pair, NumberHeld, TrayFull, NumberNotHeld}
-use Rattle.tray.specs.Tray.{not_a_tray, held_refusal, full_refusal, not_held_refusal, number_of_refusal, refusal_of, or_else, answered, held_as, sample_with, tray_with, as_put, hold_refusal, tray_holding, hold_answer, put_refusal, put_answer, tray_after_put, take_refusal, take_answer, tray_after_take}
+use Rattle.tray.specs.Tray.{not_a_tray, held_refusal, full_refusal, not_held_refusal, number_of_refusal, refusal_of, or_else, answered, held_as, sample_with, tray_with, as_put, hold_refusal, tray_holding, hold_answer, Told, HoldAnswer, tray_holding_unless, told_by_number, number_said, HeldByNumber, put_refusal, put_answer, tray_after_put, take_refusal, take_answer, tray_after_take}
 
 some : (k : ℕ) → 0 < k → eqb k 0 ≡ false
 some k p = ne_eqb k 0 (λ (z : k ≡ 0). omega arith)
@@ -73,6 +74,16 @@ answered_ok {X} n x {y} e =
     (λ p. let is : ◌≡◌ {A = Result X Refusal} (Ok y) (Err (refusal_of n)) = rw (some n p) at e in absurd cc)
     (λ z. omega arith)
 
+-- where a refusal is told as it is, what is answered behind a pair that passes is what the questions answer
+pub told_as_it_is : (held result : Result (Unit {0}) Refusal) → Told (λ x r. r ≡ x) held result → result ≡ held
+told_as_it_is (Err r) (Err x) t = ap Err t
+told_as_it_is (Err r) (Ok done) t = absurd t
+told_as_it_is (Ok done) result t = t
+
+-- what the pair's own questions said by its answer
+abbrev pub said : Answer → Result (Unit {0}) Refusal
+said a = result_and (as_put a) (Ok tt)
+
 module _ (l : List ℕ) (n : ℕ) where
   -- ---- the questions to a pair of that number
   abbrev by_31 : Bool → ℕ
@@ -116,24 +127,65 @@ module _ (l : List ℕ) (n : ℕ) where
 
   -- ---- holding a place
 
-  module _ (place : Place) where
-    hold_by : (k : ℕ) → hold_refusal l n 0 ≡ k → 0 < k → (Err (refusal_of k) ≡ hold_answer l n) × (l ≡ tray_holding l n 0 place)
-    unfolding hold_answer tray_holding
-    hold_by k e p = (rw (e, some k p), rw (e, some k p))
+  module _ (place : Place) {R : Type 0} (told : Refusal → R → Type 0) (pair : Result (Unit {0}) R) where
+    -- what is answered and left behind what the pair's own questions said
+    abbrev pub HoldLeaves : Result (Unit {0}) R → List ℕ → Type 0
+    HoldLeaves result after = HoldAnswer told l n pair result × (after ≡ tray_holding_unless l n pair place)
 
-    pub hold_31 : place_of_number l n < places → (Err NumberHeld ≡ hold_answer l n) × (l ≡ tray_holding l n 0 place)
-    hold_31 h = hold_by held_refusal (sym (by_places 0) ∙ rw (lt-leb places (place_of_number l n) h)) (omega arith)
+    -- they do not refuse
+    module _ (passed : pair ≡ Ok tt) where
+      hold_by : (result : Result (Unit {0}) R) (k : ℕ) → hold_refusal l n 0 ≡ k → 0 < k → IsErrAnd result (told (refusal_of k)) → HoldLeaves result l
+      unfolding hold_answer tray_holding
+      hold_by result k e p t = rw (passed, e, some k p) (t, refl)
 
-    pub hold_32 : places ≤ place_of_number l n → places ≤ free_place l → (Err TrayFull ≡ hold_answer l n) × (l ≡ tray_holding l n 0 place)
-    hold_32 h k = hold_by full_refusal (sym (by_places 0) ∙ rw (le-leb places (place_of_number l n) h, le-ltb (free_place l) places k)) (omega arith)
+      pub hold_31 : (result : Result (Unit {0}) R) → place_of_number l n < places → IsErrAnd result (told NumberHeld) → HoldLeaves result l
+      hold_31 result h t = hold_by result held_refusal (sym (by_places 0) ∙ rw (lt-leb places (place_of_number l n) h)) (omega arith) t
 
-    pub hold_held : {i : ℕ} {m : List ℕ} → places ≤ place_of_number l n → (i ≡ free_place l) × (i < places) → m ≡ stored l (place_size * i) (numbers_of place)
-        → (Ok tt ≡ hold_answer l n) × (m ≡ tray_holding l n 0 place)
-    unfolding hold_answer tray_holding
-    hold_held {i} {m} h f s =
-        let free : free_place l < places = omega (arith, f.0, f.1) in
-        let none : hold_refusal l n 0 ≡ 0 = sym (by_places 0) ∙ rw (le-leb places (place_of_number l n) h, lt-ltb (free_place l) places free) in
-        (rw none, rw none (rw f.0 at s))
+      pub hold_32 : (result : Result (Unit {0}) R) → places ≤ place_of_number l n → places ≤ free_place l → IsErrAnd result (told TrayFull) → HoldLeaves result l
+      hold_32 result h k t =
+          hold_by result full_refusal (sym (by_places 0) ∙ rw (le-leb places (place_of_number l n) h, le-ltb (free_place l) places k)) (omega arith) t
+
+      pub hold_held : {i : ℕ} {m : List ℕ} → places ≤ place_of_number l n → (i ≡ free_place l) × (i < places) → m ≡ stored l (place_size * i) (numbers_of place)
+          → HoldLeaves (Ok tt) m
+      unfolding hold_answer tray_holding
+      hold_held {i} {m} h f s =
+          let free : free_place l < places = omega (arith, f.0, f.1) in
+          let none : hold_refusal l n 0 ≡ 0 = sym (by_places 0) ∙ rw (le-leb places (place_of_number l n) h, lt-ltb (free_place l) places free) in
+          rw (passed, none) (refl, rw f.0 at s)
+
+  -- ---- holding a place, where a refusal is told by its number
+
+  refused_by_number : {r : Refusal} → Err r ≡ hold_answer l n → number_of_refusal r ≡ hold_refusal l n 0
+  unfolding hold_answer
+  refused_by_number {r} e =
+      let told = answered_err (hold_refusal l n 0) tt e in
+      by_order 0 (held_as l n) (λ p. ap number_of_refusal (told.0 ∙ ap refusal_of (no_31 p)) ∙ sym (no_31 p))
+      (λ z.
+      let new : held_as l n ≡ 0 = omega arith in
+      by_order (length (held_in l)) places (λ few. let none = room new few in absurd (omega (arith, told.1)))
+      (λ many. ap number_of_refusal (told.0 ∙ ap refusal_of (no_32 new many)) ∙ sym (no_32 new many)))
+
+  told_number : (held : Result (Unit {0}) Refusal) → held ≡ hold_answer l n → (result : Result (Unit {0}) ℕ) → Told told_by_number held result
+      → number_said result ≡ hold_refusal l n 0
+  unfolding hold_answer
+  told_number (Err r) is (Err number) t = t ∙ refused_by_number is
+  told_number (Err r) is (Ok done) t = absurd t
+  told_number (Ok done) is result t = ap number_said t ∙ sym (answered_ok (hold_refusal l n 0) tt is)
+
+  pub held_by_number : (k : ℕ) → HeldByNumber l n k
+  unfolding tray_holding
+  held_by_number k =
+      by_order 0 k
+      (λ p. record {
+        answer = λ result t. ap number_said (rw (some k p) at t) ∙ sym (no_pair k p);
+        numbers = λ place. rw (some k p, no_pair k p, some k p) refl;
+      })
+      (λ z.
+      let none : k ≡ 0 = omega arith in
+      record {
+        answer = λ result t. rw none (told_number (hold_answer l n) refl result (rw none at t));
+        numbers = λ place. rw none refl;
+      })
 
   -- ---- putting in
   module _ (u y : ℕ) where
@@ -185,12 +237,27 @@ module _ (l : List ℕ) (n : ℕ) where
           let by = put_by (hold_refusal l n 0) (sym asked) told.1 in
           (ap Err told.0 ∙ sym by.0, rw (some (hold_refusal l n 0) told.1) at m-is ∙ sym by.1)
 
-      pub put_held : Ok tt ≡ hold_answer l n → (Ok i ≡ put_answer l n u y) × (m ≡ tray_after_put l n u y)
+      pub put_held : Ok tt ≡ hold_answer l n → (as_put (Ok i) ≡ put_answer l n u y) × (m ≡ tray_after_put l n u y)
       unfolding hold_answer tray_holding
       put_held e =
           let none : hold_refusal l n 0 ≡ 0 = answered_ok (hold_refusal l n 0) tt e in
           let by = put_passed (sym asked ∙ none) in
           (ap as_put i_is ∙ sym by.0, rw (none, p-is, i_is) at m-is ∙ sym by.1)
+
+    -- from the pair's answer, and what `hold` answers and leaves behind it: a refusal is told as it is
+    module _ {p : Place} {m : List ℕ} (h : length l ≡ tray_size) where
+      pub put_by_hold : (a : Answer) (result : Result (Unit {0}) Refusal) → a ≡ answer_of u y → RightAnswer u y a → p ≡ place_of (sample_with n u y a)
+          → HoldAnswer (λ x r. r ≡ x) l n (said a) result → m ≡ tray_holding_unless l n (said a) p
+          → (result_and result (as_put a) ≡ put_answer l n u y) × (m ≡ tray_after_put l n u y)
+      put_by_hold (Err q) result a-is is_right p-is e m-is =
+          let both = put_pair h a-is is_right in
+          (ap (λ (x : Result (Unit {0}) Refusal). result_and x (as_put (Err q))) e ∙ both.0, m-is ∙ both.1)
+      put_by_hold (Ok i) result a-is is_right p-is e m-is = by_result result (told_as_it_is (hold_answer l n) result e)
+        where
+          by_result : (result : Result (Unit {0}) Refusal) → result ≡ hold_answer l n
+              → (result_and result (as_put (Ok i)) ≡ put_answer l n u y) × (m ≡ tray_after_put l n u y)
+          by_result (Err r) is = put_refused h a-is is_right p-is m-is is
+          by_result (Ok done) is = put_held h a-is is_right p-is m-is is
 
   -- ---- taking out
   take_size : (length l ≡ tray_size → ⊥) → take_refusal l n ≡ not_a_tray

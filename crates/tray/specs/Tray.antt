@@ -2,7 +2,7 @@
 -- questions; 33 number not held, on taking out." The lent memory is asked for its size first, as document 01 asks the pair's record. A sample's number has no bound
 -- here; that it has 32 bits, the operations say (#104: "The tray takes numbers up to 4,294,967,295"; before it was one byte).
 use Rattle.index.specs.Answer.{Answer}
-use Rattle.std.specs.Prelude.{ℕ, ◌*◌, Bool, cond, List, eqb, ltb, length, Result, Ok, Err}
+use Rattle.std.specs.Prelude.{ℕ, ◌*◌, ◌≡◌, Bool, cond, List, eqb, ltb, length, Result, Ok, Err, IsErrAnd}
 use Rattle.laws.specs.Questions.{ask}
 use Rattle.reference.specs.Refusal as pair
 use Rattle.index.specs.declared.answer.Index.{Index}
@@ -99,6 +99,35 @@ tray_holding tray number pair place = cond (eqb (hold_refusal tray number pair) 
 -- and what is answered then, of a pair that its own questions do not refuse
 unfoldable pub hold_answer : List ℕ → ℕ → Result (Unit {0}) Refusal
 hold_answer tray number = answered (hold_refusal tray number 0) tt
+
+-- the same behind what the pair's own questions said, "both after the pair's own questions": their refusal comes first, and one of these is told as `told` says
+abbrev pub Told : {R : Type 0} → (Refusal → R → Type 0) → Result (Unit {0}) Refusal → Result (Unit {0}) R → Type 0
+Told told (Err refusal) result = IsErrAnd result (told refusal)
+Told told (Ok done) result = result ≡ Ok done
+
+abbrev pub HoldAnswer : {R : Type 0} → (Refusal → R → Type 0) → List ℕ → ℕ → Result (Unit {0}) R → Result (Unit {0}) R → Type 0
+HoldAnswer told tray number (Err refusal) result = result ≡ Err refusal
+HoldAnswer told tray number (Ok done) result = Told told (hold_answer tray number) result
+
+abbrev pub tray_holding_unless : {R : Type 0} → List ℕ → ℕ → Result (Unit {0}) R → Place → List ℕ
+tray_holding_unless tray number (Err refusal) place = tray
+tray_holding_unless tray number (Ok done) place = tray_holding tray number 0 place
+
+-- where a refusal is told by its number, as C reads it: what the number of the pair's own questions says, and the number of what is said, 0 where none refuses
+abbrev pub told_by_number : Refusal → ℕ → Type 0
+told_by_number refusal number = number ≡ number_of_refusal refusal
+
+abbrev pub said_by : ℕ → Result (Unit {0}) ℕ
+said_by number = cond (eqb number 0) (Ok tt) (Err number)
+
+abbrev pub number_said : Result (Unit {0}) ℕ → ℕ
+number_said (Err number) = number
+number_said (Ok done) = 0
+
+-- what is answered and left is then what the questions say behind that number, whichever it is
+pub record HeldByNumber (tray : List ℕ) (number pair : ℕ) : Type 0 where
+  pub answer : (result : Result (Unit {0}) ℕ) → HoldAnswer told_by_number tray number (said_by pair) result → number_said result ≡ hold_refusal tray number pair
+  pub numbers : (place : Place) → tray_holding_unless tray number (said_by pair) place ≡ tray_holding tray number pair place
 
 -- a pair's answer as a put gives it: its refusal is one of the pair's own questions
 abbrev pub as_put : Answer → Result Index Refusal

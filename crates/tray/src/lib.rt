@@ -8,26 +8,40 @@ pub mod refusal;
 pub mod state;
 
 ghost use Rattle.std.specs.Prelude.{◌≡◌};
-ghost use Rattle.tray.specs.Tray.{hold_answer, tray_holding, put_answer, tray_after_put, take_answer, tray_after_take};
+ghost use Rattle.tray.specs.Tray.{as_put, HoldAnswer, tray_holding_unless, put_answer, tray_after_put, take_answer, tray_after_take};
 
-use index::Index;
+use index::{Answer, Index};
 pub use index_summary::Summary;
 pub use refusal::Refusal;
 pub use state::summary;
 use tray_places::{free, free_place, place_of_number, places_in, store_place};
 pub use tray_places::{Place, Sample, TRAY_SIZE};
 
-// Stores a place under its number, unless the number is held already or no place is free.
-pub fn hold(tray: &mut [u32; TRAY_SIZE], number: u32, place: Place) -> Result<(), Refusal>
-    ensures answer { result ≡ hold_answer tray.old number }
-    ensures numbers { tray.new ≡ tray_holding tray.old number 0 place }
+// Stores a place under its number, unless a question refuses it: `pair` is what the pair's own questions said, and their refusal comes first. A refusal is told as
+// a value of `R`, so that who has a pair's number alone hands over that number: it is what C reads.
+pub fn hold<R: From<Refusal> + Drop>(
+    tray: &mut [u32; TRAY_SIZE],
+    number: u32,
+    pair: Result<(), R>,
+    place: Place,
+) -> Result<(), R>
+    ensures answer { HoldAnswer R.from_gives tray.old number pair result }
+    ensures numbers { tray.new ≡ tray_holding_unless tray.old number pair place }
 {
+    pair?;
     if place_of_number(tray, number).is_some() {
-        return Err(Refusal::NumberHeld);
+        return Err(R::from(Refusal::NumberHeld));
     }
     let i = free_place(tray).ok_or(Refusal::TrayFull)?;
     store_place(tray, i, place);
     Ok(())
+}
+
+// A pair's answer as a put gives it: its refusal is one of the pair's own questions.
+fn as_put(answer: Answer) -> Result<Index, Refusal>
+    ensures { result ≡ as_put answer }
+{
+    Ok(answer?)
 }
 
 // Puts a sample in: the pair's index. The number, u and y are plain numbers until the questions are asked: a type around them would be no plainer, since it would
@@ -39,15 +53,16 @@ pub fn put(tray: &mut [u32], number: u32, u: u32, y: u32) -> Result<Index, Refus
     let Some(tray) = tray.as_mut_array::<TRAY_SIZE>() else {
         return Err(Refusal::NotATray);
     };
-    let index = index::answer_pair(u, y)?;
+    let answer = index::answer_pair(u, y);
     let place = Place::from(Sample {
         number,
         u,
         y,
-        answer: index::Answer::Ok(index),
+        answer,
     });
-    hold(tray, number, place)?;
-    Ok(index)
+    let answer = as_put(answer);
+    hold(tray, number, answer.and(Ok(())), place)?;
+    answer
 }
 
 // Takes a sample out.

@@ -1,11 +1,14 @@
 -- What the calls answer and leave, by the sizes of what is lent and by what the tray answers.
-use Rattle.laws.proofs.Contradiction.{not_some}
+use Rattle.reference.specs.declared.refusal.Refusal as of_pair
 use Rattle.reference.specs.Refusal as pair
 use Rattle.tray.specs.declared.refusal.Refusal.TheVariants.{NotATray, Pair}
 use Prim.Native.Nat.{ℕ}
 use mathlib.Core.Path.{◌≡◌, refl, sym, ap, ◌∙◌, subst}
+use mathlib.Core.Bool.{Bool, false, cond}
 use mathlib.Core.List.{List}
+use native.Mathlib.Omega.{arith}
 use borrow.Author.Tests.{eq-eqb, ne_eqb}
+use lib.Dec.{eqb}
 use lib.IntN.{ℤ}
 use lib.ListN.{length, get_or}
 use Rattle.std.specs.Prelude.{Option, Result, Ok, Err}
@@ -24,9 +27,9 @@ use Rattle.index_summary.specs.declared.Summary.{Summary}
 use Rattle.tray_places.specs.declared.samples.Place.{Place}
 use Rattle.tray_places.specs.Samples.{Sample, place_of}
 use Rattle.tray.specs.declared.refusal.Refusal.{Refusal}
-use Rattle.tray.specs.Tray.{number_of_refusal, sample_with}
+use Rattle.tray.specs.Tray.{sample_with, Told, told_by_number, said_by}
 use Rattle.tray.specs.Calls.{refused_by}
-use Rattle.summary_tray.specs.SummaryTray.{tray_size, hold_answer, tray_holding, put_answer, tray_after_put, take_answer, tray_after_take, state_of}
+use Rattle.summary_tray.specs.SummaryTray.{tray_size, hold_answer, HoldAnswer, tray_holding, tray_holding_unless, put_answer, tray_after_put, take_answer, tray_after_take, state_of}
 use Rattle.summary_tray.proofs.Parts.{put_5, place_pair, place_refused, place_held}
 use Rattle.tray_calls.specs.TrayCalls.{not_its_size, record_with, place_from, put_number, tray_put, record_put, pair_size, pair_with, record_from, take_number, tray_taken, pair_taken, record_taken, row_size, row_with, summary_number, summary_after}
 
@@ -73,39 +76,55 @@ module _ (tray lent : List ℕ) (n u y : ℕ) {filled : List ℕ} (Filled-is : f
       put_done tray lent n u y (Err NotATray) h by.0 by.1 refl refl
 
   module _ (h : length lent ≡ result_size) (t : length tray ≡ tray_size) where
-    pub put_by_pair : (get_or filled 0 0 ≡ 0 → ⊥) → PutLeaves tray lent n u y (get_or filled 0 0) tray lent
-    put_by_pair z = by_case (answer_of u y) refl
+    -- what the pair's own questions said stands in the record too
+    by_pair : {P : Type 0} {said : Result (Unit {0}) ℕ} → said ≡ said_by (get_or filled 0 0)
+        → ((q : of_pair.Refusal) → Err q ≡ answer_of u y → RightAnswer u y (Err q) → said ≡ Err (pair.number_of_refusal q) → P)
+        → ((i : Index) → Ok i ≡ answer_of u y → RightAnswer u y (Ok i) → said ≡ Ok tt → P) → P
+    by_pair {P} {said} is refused answered = by_case (answer_of u y) refl
       where
-        by_case : (a : Answer) → a ≡ answer_of u y → PutLeaves tray lent n u y (get_or filled 0 0) tray lent
+        by_case : (a : Answer) → a ≡ answer_of u y → P
         by_case (Err q) e =
-            let by = place_pair tray n t u y e (subst (RightAnswer u y) (sym e) (right u y)) in
-            put_done tray lent n u y (Err (Pair q)) h by.0 by.1 (number_there ∙ ap number_of (sym e)) refl
-        by_case (Ok i) e = absurd (z (number_there ∙ ap number_of (sym e)))
+            let r : RightAnswer u y (Err q) = subst (RightAnswer u y) (sym e) (right u y) in
+            let some : eqb (pair.number_of_refusal q) 0 ≡ false = ne_eqb _ 0 (λ (z : pair.number_of_refusal q ≡ 0). omega (arith, r.case)) in
+            refused q e r (is ∙ ap said_by (number_there ∙ ap number_of (sym e)) ∙ ap (λ (b : Bool). cond b (Ok tt) (Err (pair.number_of_refusal q))) some)
+        by_case (Ok i) e =
+            answered i e (subst (RightAnswer u y) (sym e) (right u y)) (is ∙ ap said_by (number_there ∙ ap number_of (sym e)))
 
-    module _ {p : Place} {m : List ℕ} (z : get_or filled 0 0 ≡ 0) (p-is : p ≡ place_from filled n u y) (m-is : m ≡ tray_holding tray n 0 p) where
-      -- the pair has an index
-      by_index : {P : Type 0} → ((i : Index) → Ok i ≡ answer_of u y → RightAnswer u y (Ok i) → p ≡ place_of (sample_with n u y (Ok i)) → P) → P
-      by_index {P} f = by_case (answer_of u y) refl
+    module _ {p : Place} {said : Result (Unit {0}) ℕ} {m : List ℕ} (said-is : said ≡ said_by (get_or filled 0 0)) (p-is : p ≡ place_from filled n u y)
+        (m-is : m ≡ tray_holding_unless tray n said p) where
+      place_of_index : {i : Index} → Ok i ≡ answer_of u y → p ≡ place_of (sample_with n u y (Ok i))
+      place_of_index is = place_there p-is ∙ ap (λ (a : Answer). place_of (sample_with n u y a)) (sym is)
+
+      pub put_not_held : (k : ℕ) → HoldAnswer told_by_number tray n said (Err k) → PutLeaves tray lent n u y k m lent
+      put_not_held k held =
+          by_pair said-is
+          (λ q is is_right told.
+          let by = place_pair tray n t u y is is_right in
+          let number : ◌≡◌ {A = Result (Unit {0}) ℕ} (Err k) (Err (pair.number_of_refusal q)) = rw told at held in
+          put_done tray lent n u y (Err (Pair q)) h by.0 ((rw told at m-is) ∙ by.1) (cc) refl)
+          (λ i is is_right told. by_held i is is_right (rw told at m-is) (hold_answer tray n) refl (rw told at held))
         where
-          by_case : (a : Answer) → a ≡ answer_of u y → P
-          by_case (Err q) e =
-              let r : RightAnswer u y (Err q) = subst (RightAnswer u y) (sym e) (right u y) in
-              not_some (pair.number_of_refusal q) (ap number_of e ∙ sym number_there ∙ z) r.case
-          by_case (Ok i) e =
-              f i e (subst (RightAnswer u y) (sym e) (right u y))
-              (place_there p-is ∙ ap (λ (a : Answer). place_of (sample_with n u y a)) (sym e))
+          by_held : (i : Index) → Ok i ≡ answer_of u y → RightAnswer u y (Ok i) → m ≡ tray_holding tray n 0 p → (held : Result (Unit {0}) Refusal)
+              → held ≡ hold_answer tray n → Told told_by_number held (Err k) → PutLeaves tray lent n u y k m lent
+          by_held i is is_right left (Err r) e told =
+              let by = place_refused tray n t u y is is_right (place_of_index is) left e in
+              put_done tray lent n u y (Err r) h by.0 by.1 told refl
+          by_held i is is_right left (Ok done) e told = absurd cc
 
-      pub put_not_held : {r : Refusal} → Err r ≡ hold_answer tray n → PutLeaves tray lent n u y (number_of_refusal r) m lent
-      put_not_held {r} e =
-          by_index (λ i is right p.
-          let by = place_refused tray n t u y is right p m-is e in
-          put_done tray lent n u y (Err r) h by.0 by.1 refl refl)
-
-      pub put_in : {after : List ℕ} → Ok tt ≡ hold_answer tray n → after ≡ filled → PutLeaves tray lent n u y 0 m after
-      put_in {after} e f =
-          by_index (λ i is right p.
-          let by = place_held tray n t u y is right p m-is e in
-          put_done tray lent n u y (Ok i) h by.0 by.1 refl (f ∙ Filled-is ∙ ap record_of (sym is)))
+      pub put_in : {after : List ℕ} → HoldAnswer told_by_number tray n said (Ok tt) → after ≡ filled → PutLeaves tray lent n u y 0 m after
+      put_in {after} held f =
+          by_pair said-is
+          (λ q is is_right told.
+          let other : ◌≡◌ {A = Result (Unit {0}) ℕ} (Ok tt) (Err (pair.number_of_refusal q)) = rw told at held in
+          absurd cc)
+          (λ i is is_right told. by_held i is is_right (rw told at m-is) (hold_answer tray n) refl (rw told at held))
+        where
+          by_held : (i : Index) → Ok i ≡ answer_of u y → RightAnswer u y (Ok i) → m ≡ tray_holding tray n 0 p → (held : Result (Unit {0}) Refusal)
+              → held ≡ hold_answer tray n → Told told_by_number held (Ok tt) → PutLeaves tray lent n u y 0 m after
+          by_held i is is_right left (Err r) e told = absurd told
+          by_held i is is_right left (Ok done) e told =
+              let by = place_held tray n t u y is is_right (place_of_index is) left e in
+              put_done tray lent n u y (Ok i) h by.0 by.1 refl (f ∙ Filled-is ∙ ap record_of (sym is))
 
 -- ---- taking out
 

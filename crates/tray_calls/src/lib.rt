@@ -5,7 +5,7 @@
 ghost use Rattle.std.specs.Prelude.{◌≡◌};
 ghost use Rattle.index.specs.ChosenAnswer.{answer_of};
 ghost use Rattle.answer_record.specs.Record.{record_of};
-ghost use Rattle.tray.specs.Tray.{number_of_refusal};
+ghost use Rattle.tray.specs.Tray.{number_of_refusal, said_by};
 ghost use Rattle.tray_calls.specs.TrayCalls.{place_from, state_row, put_number, tray_put, record_put, take_number, tray_taken, pair_taken, record_taken, summary_number, summary_after};
 
 use answer_record::layout::{INDEX_AT, LOWER_AT, METHOD_AT, RESULT_SIZE, UPPER_AT};
@@ -48,6 +48,17 @@ fn number_of(refusal: Refusal) -> u32
     u32::from(u8::from(refusal))
 }
 
+// What the pair's own questions said, by the number that stands in its record.
+fn said_by(number: u8) -> Result<(), u8>
+    ensures { result ≡ said_by number }
+{
+    if number == ANSWERED {
+        Ok(())
+    } else {
+        Err(number)
+    }
+}
+
 // Puts a sample in whose pair's answer stands in a record, and gives that record. An inner function, for callers that have asked the pair: what it stores and
 // gives is read back from that record, so that one function fills it, whoever asks, and the pair operation is not laid out a third time. The number, u, y and
 // what is lent are parameters here and below as C hands them over: a type around them would be made for one call and taken apart at once.
@@ -70,13 +81,10 @@ pub fn put_answered(
     let Some(tray) = tray.as_mut_array::<TRAY_SIZE>() else {
         return NOT_ITS_SIZE;
     };
-    let pair = filled[0];
-    if pair != ANSWERED {
-        return u32::from(pair);
-    }
+    let pair = said_by(filled[0]);
     let place = place_from(filled, number, u, y);
-    match summary_tray::hold(tray, number, place) {
-        Err(refusal) => number_of(refusal),
+    match summary_tray::hold(tray, number, pair, place) {
+        Err(refused) => u32::from(refused),
         Ok(()) => {
             record.copy_from_slice(filled);
             DONE
