@@ -17,13 +17,14 @@ use Rattle.tray_places.specs.Counts.{one, times, numbered, same}
 use Rattle.tray_places.proofs.Held.{times_none, times_one}
 use Rattle.tray_places.proofs.Found.{empty_size, empty_holds}
 use Rattle.tray_places.proofs.Same.{itself, only}
-use Rattle.tray.specs.Tray.{sample_with, as_put, put_answer, take_answer}
+use Rattle.tray.specs.Tray.{sample_with, put_answer, take_answer}
 use Rattle.tray.specs.State.{state_after, state_of}
 use Rattle.tray.specs.Calls.{Put, Take, Ask, ToPut, ToTake, ToAsk, after, answers_to}
 use Rattle.tray.proofs.Steps.{call_step}
 use Rattle.tray.proofs.EveryList.{length_times, every_call}
 use Rattle.one_byte_tray.specs.OneByteTray as one_byte
 use Rattle.one_byte_tray.specs.SameAnswers.{all_up_to_255, AnyNumbers}
+use Rattle.one_byte_tray.proofs.Kept.{given_same}
 use Rattle.one_byte_tray.proofs.SameAnswers.{same_answers}
 
 -- ---- the samples that a tray holds, in whatever places
@@ -44,7 +45,7 @@ empty_held : Holds empty_tray []
 empty_held = record { size = empty_size; each = λ test. ap (times test) empty_holds }
 
 record PutInto (tray : List ℕ) (samples : List Sample) (number u y : ℕ) : Type 0 where
-  given : put_answer tray number u y ≡ as_put (answer_of u y)
+  given : put_answer tray number u y ≡ one_byte.as_put (answer_of u y)
   then : Holds (after tray (Put number u y)) (sample_with number u y (answer_of u y) ∷ samples)
 
 put_into : (tray : List ℕ) (samples : List Sample) (number u y : ℕ) → Holds tray samples → refusal u y ≡ 0 → times (numbered number) samples ≡ 0
@@ -53,7 +54,7 @@ put_into tray samples number u y h passed new few =
     let both =
     (every_call tray h.size).put_in number u y passed (h.each (numbered number) ∙ new) (omega (arith, count_held tray samples h)) in
     record {
-      given = both.0;
+      given = both.0 ∙ given_same (answer_of u y);
       then = record {
         size = (call_step tray (Put number u y) h.size).size;
         each = λ test.
@@ -142,7 +143,7 @@ module _ (m n u y v z : ℕ) (different : m ≡ n → ⊥) (passed : refusal u y
       (λ x p e. by_test (same x t) (only x t) (λ g. absurd (omega (arith, times_one (same x) t, ap one g))))
 
   two_samples : answers_to empty_tray (Put m u y ∷ Put n v z ∷ Take m ∷ Take n ∷ Ask ∷ [])
-      ≡ ToPut (as_put (answer_of u y)) ∷ ToPut (as_put (answer_of v z)) ∷ ToTake (Ok s) ∷ ToTake (Ok t) ∷ ToAsk (Ok None) ∷ []
+      ≡ ToPut (one_byte.as_put (answer_of u y)) ∷ ToPut (one_byte.as_put (answer_of v z)) ∷ ToTake (Ok s) ∷ ToTake (Ok t) ∷ ToAsk (Ok None) ∷ []
   unfolding answers_to
   two_samples =
       rw (put_first.given, put_second.given, take_first.given, take_second.given, none_held (after (after both_in (Take m)) (Take n)) take_second.then)
@@ -158,7 +159,7 @@ module _ (n u y v z : ℕ) (passed : refusal u y ≡ 0) (passed' : refusal v z �
       (every_call (after empty_tray (Put n u y)) first.then.size).number_held n v z passed'
       (omega (arith, first.then.each (numbered n), times_one (numbered n) s, its))
 
-  one_sample : answers_to empty_tray (Put n u y ∷ Put n v z ∷ []) ≡ ToPut (as_put (answer_of u y)) ∷ ToPut (Err NumberHeld) ∷ []
+  one_sample : answers_to empty_tray (Put n u y ∷ Put n v z ∷ []) ≡ ToPut (one_byte.as_put (answer_of u y)) ∷ ToPut (Err NumberHeld) ∷ []
   unfolding answers_to
   one_sample = rw ((put_empty n u y passed).given, held_already)
 

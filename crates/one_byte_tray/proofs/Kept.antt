@@ -3,13 +3,16 @@ use Prim.Native.Nat.{ℕ, zero, suc}
 use mathlib.Core.Path.{◌≡◌, refl, ap, ◌∙◌}
 use mathlib.Core.Bool.{Bool}
 use mathlib.Core.List.{List, [], ◌∷◌}
-use Rattle.std.specs.Prelude.{Option, Some, None}
+use Rattle.std.specs.Prelude.{Option, Some, None, Ok, Err}
+use Rattle.index.specs.Answer.{Answer}
 use Rattle.index.specs.ChosenAnswer.{answer_of}
 use Rattle.index_summary.specs.declared.Summary.{Summary}
 use Rattle.tray_places.specs.Samples.{Sample, place_of, answer_from}
 use Rattle.tray_places.specs.Places.{places, numbers_of, freed, empty_tray, is_held, sample_at, is_held_as, is_free, first, among, held_in, place_of_number, free_place}
 use Rattle.tray_places.specs.Counts.{times, numbered}
-use Rattle.tray.specs.Tray.{sample_with, hold_refusal, put_refusal, take_refusal, put_answer, tray_after_put, take_answer, tray_after_take}
+use Rattle.tray.specs.declared.refusal.Refusal.{Refusal}
+use Rattle.tray.specs.declared.refusal.Refusal.TheVariants.{NotATray, Pair, NumberHeld, TrayFull, NumberNotHeld}
+use Rattle.tray.specs.Tray.{number_of_refusal, refusal_of, as_put, sample_with, hold_refusal, put_refusal, take_refusal, put_answer, tray_after_put, take_answer, tray_after_take}
 use Rattle.tray.specs.State.{with_answer, state_after, state_of}
 use Rattle.one_byte_tray.specs.OneByteTray as one_byte
 
@@ -63,11 +66,28 @@ take_questions_same : (tray : List ℕ) (number : ℕ) → take_refusal tray num
 unfolding take_refusal one_byte.take_refusal
 take_questions_same tray number = rw (held_as_same tray number)
 
+-- ---- what is answered
+
+pub numbers_told : (r : Refusal) → number_of_refusal r ≡ one_byte.number_of_refusal r
+numbers_told NotATray = refl
+numbers_told (Pair q) = refl
+numbers_told NumberHeld = refl
+numbers_told TrayFull = refl
+numbers_told NumberNotHeld = refl
+
+refusals_same : (number : ℕ) → refusal_of number ≡ one_byte.refusal_of number
+refusals_same number = refl
+
+pub given_same : (a : Answer) → as_put a ≡ one_byte.as_put a
+given_same (Err q) = refl
+given_same (Ok i) = refl
+
 -- ---- the operations
 
 pub put_same : (tray : List ℕ) (number u y : ℕ) → put_answer tray number u y ≡ one_byte.put_answer tray number u y
 unfolding put_answer one_byte.put_answer
-put_same tray number u y = rw (put_questions_same tray number u y)
+put_same tray number u y =
+    rw (given_same (answer_of u y), refusals_same (put_refusal tray number u y), put_questions_same tray number u y)
 
 pub after_put_same : (tray : List ℕ) (number u y : ℕ) → tray_after_put tray number u y ≡ one_byte.tray_after_put tray number u y
 unfolding tray_after_put one_byte.tray_after_put
@@ -76,7 +96,7 @@ after_put_same tray number u y =
 
 pub take_same : (tray : List ℕ) (number : ℕ) → take_answer tray number ≡ one_byte.take_answer tray number
 unfolding take_answer one_byte.take_answer answer_from one_byte.answer_from
-take_same tray number = rw (take_questions_same tray number, place_same tray number)
+take_same tray number = rw (refusals_same (take_refusal tray number), take_questions_same tray number, place_same tray number)
 
 pub after_take_same : (tray : List ℕ) (number : ℕ) → tray_after_take tray number ≡ one_byte.tray_after_take tray number
 unfolding tray_after_take one_byte.tray_after_take freed one_byte.freed

@@ -12,7 +12,7 @@ use Rattle.tray.specs.Calls.{Call, Put, Take, Ask, CallAnswer, ToPut, ToTake, To
 use Rattle.summary_tray.proofs.Lists.{no_answer_moved}
 use Rattle.one_byte_tray.specs.OneByteTray as one_byte
 use Rattle.one_byte_tray.specs.SameAnswers.{up_to_255, call_up_to_255, all_up_to_255, SameAnswers}
-use Rattle.one_byte_tray.proofs.Kept.{empty_same, put_same, after_put_same, take_same, after_take_same, state_same}
+use Rattle.one_byte_tray.proofs.Kept.{empty_same, numbers_told, put_same, after_put_same, take_same, after_take_same, state_same}
 
 its_byte : (number : ℕ) → up_to_255 number ≡ true → one_byte.one_byte number ≡ number
 its_byte number h = mod-eq_of_lt (omega (arith, leb-true number _ h))
@@ -51,4 +51,5 @@ same_answers calls used = record {
   since_105 = (no_answer_moved calls).answers ∙ empty_answers calls used;
   from_any = answers_same calls used;
   left = left_same calls used;
+  numbers = numbers_told;
 }

@@ -1,10 +1,12 @@
 -- The tray of change request #102 as it was before #104, kept as what the tray is compared with: "each with a number of one byte", in 64 places of eight numbers.
 -- Each definition has the name and the text that it had in tray_places and tray (a constructor may have the name of its type before it, and what the calls
--- answer is said in the tray's types), but for `after`, which goes by `one_byte`; new are `one_byte`, `call_answer` and `answers_to`, which run a list of calls. No contract cites them. They share the types of a call and of what it
--- answers with the tray, for two lists of answers could not be compared otherwise; and what is no part of a tray: the pair's answer and its questions, a
+-- answer is said in the tray's types), but for `after`, which goes by `one_byte`; new are `number_of_refusal`, `refusal_of` and `as_put`, which say #102's numbers and
+-- answers in those types, and `one_byte`, `call_answer` and `answers_to`, which run a list of calls. No contract cites them. They share the types of a call and of what
+-- it answers with the tray, for two lists of answers could not be compared otherwise; and what is no part of a tray: the pair's answer and its questions, a
 -- question's form, a summary with one answer more, two's complement, numbers stored in a list.
 use Rattle.std.specs.Prelude.{ℕ, zero, suc, ◌+◌, ◌*◌, ◌%◌, Bool, cond, not, ◌&&◌, List, [], ◌∷◌, ◌++◌, eqb, ltb, length, get_or, replicate, Option, Some, None, Result, Ok, Err}
 use Rattle.laws.specs.Questions.{ask}
+use Rattle.reference.specs.Refusal as pair
 use Rattle.shown_index.specs.declared.Mark.{Mark}
 use Rattle.shown_index.specs.declared.Mark.TheVariants.{Settled, Near}
 use Rattle.index.specs.declared.answer.Index.{Index}
@@ -17,7 +19,7 @@ use Rattle.index_summary.specs.declared.Summary.{Summary}
 use Rattle.index_summary.specs.Summary.{alone_of, joined_of}
 use Rattle.tray_places.specs.Samples.{Sample}
 use Rattle.tray.specs.declared.refusal.Refusal.{Refusal}
-use Rattle.tray.specs.Tray.{refusal_of, as_put}
+use Rattle.tray.specs.declared.refusal.Refusal.TheVariants.{NotATray, Pair, NumberHeld, TrayFull, NumberNotHeld}
 use Rattle.tray.specs.Calls.{Call, Put, Take, Ask, CallAnswer, ToPut, ToTake, ToAsk}
 
 -- ---- its layout
@@ -148,6 +150,21 @@ full_refusal = 32
 abbrev pub not_held_refusal : ℕ
 not_held_refusal = 33
 
+-- the number of a refusal, and the refusal of a number
+abbrev pub number_of_refusal : Refusal → ℕ
+number_of_refusal NotATray = not_a_tray
+number_of_refusal (Pair question) = pair.number_of_refusal question
+number_of_refusal NumberHeld = held_refusal
+number_of_refusal TrayFull = full_refusal
+number_of_refusal NumberNotHeld = not_held_refusal
+
+abbrev pub refusal_of : ℕ → Refusal
+refusal_of number =
+    cond (eqb number not_a_tray) NotATray
+    (cond (eqb number held_refusal) NumberHeld
+    (cond (eqb number full_refusal) TrayFull
+    (cond (eqb number not_held_refusal) NumberNotHeld (Pair (pair.refusal_of number)))))
+
 -- is the lent memory just 512 numbers?
 abbrev pub is_tray : List ℕ → Bool
 is_tray tray = eqb (length tray) tray_size
@@ -199,6 +216,11 @@ tray_storing tray place = stored tray (place_size * free_place tray) (numbers_of
 
 abbrev pub tray_with : List ℕ → Sample → List ℕ
 tray_with tray s = tray_storing tray (place_of s)
+
+-- a pair's answer as a put gives it: its refusal is one of the pair's own questions
+abbrev pub as_put : Answer → Result Index Refusal
+as_put (Err question) = Err (Pair question)
+as_put (Ok index) = Ok index
 
 -- "Putting in takes a number, u and y and gives the pair's answer"
 unfoldable pub put_answer : List ℕ → ℕ → ℕ → ℕ → Result Index Refusal

@@ -26,7 +26,7 @@ use Rattle.tray.specs.declared.refusal.Refusal.{Refusal}
 use Rattle.tray.specs.declared.refusal.Refusal.TheVariants.{Pair, NumberHeld, TrayFull}
 use Rattle.tray.specs.Tray.{number_of_refusal, held_as, sample_with, as_put, put_answer, take_answer}
 use Rattle.tray.specs.Calls.{Call, Put, Take, Ask, refused_by, call_refusal, after, after_all, in_by, samples_taken_in, samples_taken_out, all_taken_in, all_taken_out}
-use Rattle.tray.specs.EveryListOfCalls.{EveryList, QuestionNumbers, OtherMemory, EveryCall}
+use Rattle.tray.specs.EveryListOfCalls.{EveryList, QuestionNumbers, OtherMemory, GivesIndex, EveryCall}
 use Rattle.tray.proofs.Questions.{refusal_some, put_5, take_5}
 use Rattle.tray.proofs.Steps.{pair_first, refused_31, refused_32, put_answered, one_in, refused_33, take_answered, number_out, one_out, call_step}
 
@@ -213,6 +213,13 @@ back_out l n u y h passed new few =
     let is : one (other x) ≡ 1 = another (numbered n x) (same s x) its-x e in
     absurd (omega arith))
 
+-- the index that a put gives is the pair's own
+own_index : (l : List ℕ) (n u y : ℕ) (a : Answer) → a ≡ answer_of u y → refusal u y ≡ 0 → put_answer l n u y ≡ as_put a → GivesIndex l n u y
+own_index l n u y (Err q) e passed given =
+    let r : RightAnswer u y (Err q) = subst (RightAnswer u y) (sym e) (right u y) in
+    not_some (pair.number_of_refusal q) (r.number ∙ passed) r.case
+own_index l n u y (Ok i) e passed given = record { index = i; own = sym e; given = given }
+
 pub question_numbers : QuestionNumbers
 question_numbers = record { lent = refl; pair = λ n. refl; held = refl; full = refl; not_held = refl }
 
@@ -232,6 +239,7 @@ every_call l h = record {
   put_in = λ n u y z k f.
       let both = put_answered l h n u y z k f in
       (both.0, λ test. ap (λ (m : List ℕ). times test (held_in m)) both.1 ∙ one_in l h n u y z f test);
+  index_given = λ n u y z k f. own_index l n u y (answer_of u y) refl z (put_answered l h n u y z k f).0;
   not_held = λ n z. (refused_33 l h n z).0;
   taken_out = λ n p.
       let both = take_answered l h n p in

@@ -3,6 +3,7 @@
 use Rattle.std.specs.Prelude.{ℕ, ◌+◌, ◌≤◌, ◌<◌, ◌≡◌, Bool, List, length, Ok, Err}
 use Rattle.reference.specs.declared.refusal.Refusal as of_pair
 use Rattle.reference.specs.Refusal as pair
+use Rattle.index.specs.declared.answer.Index.{Index}
 use Rattle.index.specs.Questions.{refusal}
 use Rattle.index.specs.Answer.{RightAnswer}
 use Rattle.index.specs.ChosenAnswer.{answer_of}
@@ -51,6 +52,12 @@ pub record QuestionNumbers : Type 0 where
   pub full : number_of_refusal TrayFull ≡ 32
   pub not_held : number_of_refusal NumberNotHeld ≡ 33
 
+-- a put that is not refused: it gives an index, which is the pair's own
+pub record GivesIndex (tray : List ℕ) (number u y : ℕ) : Type 0 where
+  pub index : Index
+  pub own : answer_of u y ≡ Ok index
+  pub given : put_answer tray number u y ≡ Ok index
+
 -- a take that is not refused: it gives a sample of that number, and just this sample is held less
 pub record GivesOut (tray : List ℕ) (number : ℕ) : Type 0 where
   pub sample : Sample
@@ -77,6 +84,7 @@ pub record EveryCall (tray : List ℕ) (lent : length tray ≡ 512) : Type 0 whe
   pub put_in : (number u y : ℕ) → refusal u y ≡ 0 → held_as tray number ≡ 0 → length (held_in tray) < 64
       → (put_answer tray number u y ≡ as_put (answer_of u y))
       × ((test : Sample → Bool) → times test (held_in (after tray (Put number u y))) ≡ times test (held_in tray) + one (test (sample_with number u y (answer_of u y))))
+  pub index_given : (number u y : ℕ) → refusal u y ≡ 0 → held_as tray number ≡ 0 → length (held_in tray) < 64 → GivesIndex tray number u y
   -- "33 number not held"
   pub not_held : (number : ℕ) → held_as tray number ≡ 0 → take_answer tray number ≡ Err NumberNotHeld
   pub taken_out : (number : ℕ) → 0 < held_as tray number → GivesOut tray number
