@@ -12,4 +12,5 @@ mod fractions;
 mod questions;
 
 pub use answer::{Constant, answer_constant};
+pub use logarithm::{LOG_TABLE_SIZE, first_table, second_table};
 pub use questions::{Density, Refusal, Temperature, Viscosity};

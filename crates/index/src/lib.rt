@@ -1,5 +1,6 @@
 // The answer to a pair of kinematic viscosities: questions 1 to 4, procedure A at or above H, procedure B below it. A module for each: `questions`,
-// `procedure_a`, `procedure_b`; `pair` puts them together, and `answer` says what an answer is.
+// `procedure_a`, `procedure_b`; `pair` puts them together, and `answer` says what an answer is. The four tables of the crates below are handed on for
+// whoever wants to read them; nothing here does.
 #![tactic(auto)]
 
 pub mod answer;
@@ -9,6 +10,7 @@ pub mod procedure_b;
 mod questions;
 
 pub use answer::{Answer, Index};
+pub use logarithm::{LOG_TABLE_SIZE, first_table, second_table};
 pub use pair::answer_pair;
-pub use reference::Refusal;
-pub use shown_index::{ByB, Mark};
+pub use reference::{ROWS_TABLE_SIZE, Refusal, rows_table};
+pub use shown_index::{ByB, Mark, THRESHOLDS_TABLE_SIZE, thresholds_table};

@@ -24,6 +24,7 @@ mod tables;
 
 ghost use Rattle.std.specs.Prelude.{◌≡◌, ◌+◌, ◌*◌, ◌-◌, ◌/◌, ◌≤◌, ◌<◌};
 ghost use Rattle.logarithm.specs.Scale.{unit};
+ghost use Rattle.logarithm.specs.Tables.{first_table, second_table};
 ghost use Rattle.logarithm.specs.Log2.{Enclosed, Reduces, fraction_of, packing, slot_count};
 ghost use Rattle.logarithm.specs.Preconditions.{InRange};
 
@@ -40,6 +41,8 @@ const PACKING: u64 = 32768;
 
 // How many entries a table has.
 const SLOT_COUNT: usize = 256;
+
+pub const LOG_TABLE_SIZE: usize = SLOT_COUNT;
 
 // The first level: slots 2^40 apart, factors over 2^16.
 const FIRST_SPACING: u64 = 1099511627776;
@@ -102,15 +105,31 @@ fn reduce(table: &[u64; SLOT_COUNT], m: u64, s: u64, d: u64) -> Reduced
     }
 }
 
-// The logarithm of m / UNIT.
+// The logarithm of m / UNIT. The source's tables are those of specs/.
 #[tactic(auto, using(crate::proofs::Log2::first_level, crate::proofs::Log2::second_level), unfolding(crate::specs::Tables::first_table, crate::specs::Tables::second_table, crate::specs::Log2::fraction_of, crate::specs::Log2::rest_of, crate::specs::Log2::tail_of))]
 fn fraction(m: u64) -> u64
     requires { (unit ≤ m) × (m < 2 * unit) }
-    ensures { (result ≡ fraction_of m) × (result < 16 * unit) }
+    ensures value { (result ≡ fraction_of m) × (result < 16 * unit) }
+    ensures table { (FIRST ≡ first_table) × (SECOND ≡ second_table) }
 {
     let a = reduce(&FIRST, m, FIRST_SPACING, FIRST_DIVISOR);
     let b = reduce(&SECOND, a.mantissa, SECOND_SPACING, SECOND_DIVISOR);
     a.log + (b.log + (b.mantissa - UNIT) * SLOPE / SLOPE_DIVISOR)
+}
+
+// The two tables, where they lie.
+#[tactic(auto, unfolding(crate::specs::Tables::first_table))]
+pub fn first_table() -> &'static [u64; LOG_TABLE_SIZE]
+    ensures { result.now ≡ first_table }
+{
+    &FIRST
+}
+
+#[tactic(auto, unfolding(crate::specs::Tables::second_table))]
+pub fn second_table() -> &'static [u64; LOG_TABLE_SIZE]
+    ensures { result.now ≡ second_table }
+{
+    &SECOND
 }
 
 // The scaled logarithm of x. An inner function, for callers that know x to be in its range.

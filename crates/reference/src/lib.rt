@@ -146,6 +146,14 @@ pub fn source_of(y: u32) -> Option<Place>
 
 // ---- the value at a place of Table 1
 
+// A row of the table is two entries, L and then H.
+const ROW_COUNT: usize = 311;
+
+const ROW_SIZE: usize = 2;
+
+// How many entries the table has.
+pub const ROWS_TABLE_SIZE: usize = ROW_SIZE * ROW_COUNT;
+
 // The straight line from a up to b, both in thousandths, at a share of the way: in units.
 #[tactic(auto, using(crate::proofs::StraightLines::straight_line_rises))]
 fn straight_line(a: u32, b: u32, share: u32) -> u64
@@ -168,6 +176,19 @@ fn entry(oil: ReferenceOil, row: usize) -> u32
         ReferenceOil::L => l,
         ReferenceOil::H => h,
     }
+}
+
+// Table 1 as a list of its entries. The source has it by rows, so that this is a copy.
+#[tactic(auto, using(crate::proofs::Entries::next_row, crate::proofs::Entries::all_rows))]
+pub fn rows_table() -> [u32; ROWS_TABLE_SIZE]
+    ensures { result ≡ table1 }
+{
+    let mut entries = [0; ROWS_TABLE_SIZE];
+    for row in 0..ROW_COUNT {
+        entries[ROW_SIZE * row] = entry(ReferenceOil::L, row);
+        entries[ROW_SIZE * row + 1] = entry(ReferenceOil::H, row);
+    }
+    entries
 }
 
 // L or H at a place of the table.

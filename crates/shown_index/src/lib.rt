@@ -19,6 +19,7 @@ ghost use Rattle.shown_index.specs.RightIndex.{RightIndex};
 ghost use Rattle.shown_index.specs.ChosenIndex.{chosen_index};
 
 pub use fractions::Fractions;
+pub use thresholds::{THRESHOLDS_TABLE_SIZE, thresholds_table};
 
 // Between which numbers an index by procedure B lies.
 const LEAST_INDEX: u64 = 100;
