@@ -80,7 +80,7 @@ module _ (t : Temperature) (d n : ℕ) (o : InFormula t d n) where
   pub divisor_least : least_divisor * Q_number ≤ divisor_at t n
   divisor_least = omega (arith, o.divisor_above)
 
-  few : count_at t d n < most_count
+  pub few : count_at t d n < most_count
   unfolding count_at
   few = few_counts (sum_at t d n) (divisor_at t n) (omega (arith, o.sum_fits)) divisor_least
 

@@ -87,11 +87,11 @@ module _ (u y h units : ℕ) (passes : Passes u y) (h_is : h ≡ h_at y) (units-
 
 -- ---- the questions
 
-asked_refused : (u y n : ℕ) → refusal u y ≡ n → 0 < n → asked_of u y ≡ Err (refusal_of n)
+pub asked_refused : (u y n : ℕ) → refusal u y ≡ n → 0 < n → asked_of u y ≡ Err (refusal_of n)
 unfolding asked_of
 asked_refused u y n e p = rw (e, ne_eqb n 0 (λ z. omega arith))
 
-asked_passed : (u y : ℕ) → Passes u y → asked_of u y ≡ Ok (record { u = u; y = y })
+pub asked_passed : (u y : ℕ) → Passes u y → asked_of u y ≡ Ok (record { u = u; y = y })
 unfolding asked_of
 asked_passed u y a = rw (none_refuses u y a)
 

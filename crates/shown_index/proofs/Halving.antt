@@ -160,11 +160,11 @@ module _ (k p P : ℕ) (least : least_index ≤ k) (most : k < most_index) where
 
 -- ---- the mark
 
-marked_settled : (k p P : ℕ) → shows_most P (100 * k + 50) ≡ true → marked_of k p P ≡ made k mark.Settled p P
+pub marked_settled : (k p P : ℕ) → shows_most P (100 * k + 50) ≡ true → marked_of k p P ≡ made k mark.Settled p P
 unfolding marked_of
 marked_settled k p P e = rw e
 
-marked_near : (k p P : ℕ) → shows_most P (100 * k + 50) ≡ false → marked_of k p P ≡ made (k + 1) mark.Near p P
+pub marked_near : (k p P : ℕ) → shows_most P (100 * k + 50) ≡ false → marked_of k p P ≡ made (k + 1) mark.Near p P
 unfolding marked_of
 marked_near k p P e = rw e
 
