@@ -107,7 +107,7 @@ module _ (l : List ℕ) (n : ℕ) where
       abbrev held_places : List ℕ
       held_places = places.tray_holding (places_in l) n 0 place
 
-      hold_size : length held_places ≡ places_size
+      pub hold_size : length held_places ≡ places_size
       unfolding places.tray_holding
       hold_size =
           by_test (eqb (places.hold_refusal (places_in l) n 0) 0)
@@ -189,7 +189,7 @@ module _ (l : List ℕ) (n : ℕ) where
 
       -- ---- a sample that is put in
       module _ {p : List ℕ} (p-is : p ≡ places.tray_after_put (places_in l) n u y) where
-        put_size : length p ≡ places_size
+        pub put_size : length p ≡ places_size
         put_size = ap length p-is ∙ (call_step (places_in l) (Put n u y) (length_places l h)).size
 
         pub put_refused : {r : Refusal} → Err r ≡ places.put_answer (places_in l) n u y
@@ -214,7 +214,7 @@ module _ (l : List ℕ) (n : ℕ) where
         (is, ap (tray_without l (places.tray_after_take (places_in l) n)) is)
 
     module _ {p : List ℕ} (p-is : p ≡ places.tray_after_take (places_in l) n) where
-      take_size : length p ≡ places_size
+      pub take_size : length p ≡ places_size
       take_size = ap length p-is ∙ (call_step (places_in l) (Take n) (length_places l h)).size
 
       pub take_refused : {r : Refusal} → Err r ≡ places.take_answer (places_in l) n

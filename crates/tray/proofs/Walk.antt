@@ -151,7 +151,7 @@ module _ (l : List ℕ) (small : (k : ℕ) → mag (index_of (sample_at l k).ans
   passed_free : (n : ℕ) → is_held l n ≡ false → passed (suc n) ≡ passed n
   passed_free n e = ap summary_in (walk_free (is_held l) (sample_at l) n e)
 
-  walk_next : (n : ℕ) → with_place l n (passed n) ≡ passed (n + 1)
+  pub walk_next : (n : ℕ) → with_place l n (passed n) ≡ passed (n + 1)
   walk_next n =
       rw (add-one n) (by_test (is_held l n) (λ e. rw e (sym (passed_held n e))) (λ e. rw e (sym (passed_free n e))))
 
