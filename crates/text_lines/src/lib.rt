@@ -49,6 +49,7 @@ pub fn refused_line(number: u8) -> ArrayString<REFUSED_LINE_WIDTH>
 }
 
 // A word, a space and an index.
+#[inline(always)]
 fn push_answered<const N: usize>(text: &mut ArrayString<N>, word: &str, index: i32)
     requires short { length word.now ≤ 2 }
     requires room { length text.old.bytes + 14 ≤ N }
@@ -62,6 +63,7 @@ fn push_answered<const N: usize>(text: &mut ArrayString<N>, word: &str, index: i
 
 // "refused" and the number of a refused pair.
 #[tactic(auto, using(crate::proofs::Widths::digits_of_byte))]
+#[inline(always)]
 fn push_refused<const N: usize>(text: &mut ArrayString<N>, number: u8)
     requires { length text.old.bytes + 14 ≤ N }
     ensures bytes { text.new.bytes ≡ text.old.bytes ++ worded (ascii "refused") (decimal number) }
@@ -74,6 +76,7 @@ fn push_refused<const N: usize>(text: &mut ArrayString<N>, number: u8)
 
 // The outcome of a pair, by the fields of its record. The method is a byte of the sheet's format, which may hold any number; one that is none of the
 // other three is B near.
+#[inline(always)]
 fn push_outcome_by<const N: usize>(text: &mut ArrayString<N>, number: u8, method: u8, index: i32)
     requires { length text.old.bytes + 14 ≤ N }
     ensures bytes { text.new.bytes ≡ text.old.bytes ++ outcome_by number method index }
@@ -88,6 +91,7 @@ fn push_outcome_by<const N: usize>(text: &mut ArrayString<N>, number: u8, method
 }
 
 // The outcome of the pair whose record begins at `from`: the sheet is bytes that document 01 lays out, so that the offset goes beside them.
+#[inline(always)]
 fn push_outcome_at<const N: usize>(text: &mut ArrayString<N>, sheet: &[u8], from: usize)
     requires room { length text.old.bytes + 14 ≤ N }
     requires record_within { from + result_size ≤ length sheet.now }
@@ -100,6 +104,7 @@ fn push_outcome_at<const N: usize>(text: &mut ArrayString<N>, sheet: &[u8], from
 
 // The line of pair i and its record, of a sheet's blocks.
 #[tactic(auto, unfolding(crate::specs::Lines::printed_line))]
+#[inline(always)]
 pub fn push_line<const N: usize>(text: &mut ArrayString<N>, sheet: &[u8], blocks: Blocks, i: usize)
     requires room { length text.old.bytes + 39 ≤ N }
     requires pair_within { PairWithin (length sheet.now) blocks i }
