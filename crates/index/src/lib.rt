@@ -1,6 +1,6 @@
 // The answer to a pair of kinematic viscosities: questions 1 to 4, procedure A at or above H, procedure B below it. A module for each: `questions`,
-// `procedure_a`, `procedure_b`; `pair` puts them together, and `answer` says what an answer is. The four tables of the crates below are handed on for
-// whoever wants to read them; nothing here does.
+// `procedure_a`, `procedure_b`; `pair` puts them together, and `answer` says what an answer is. The functions that hand out the four tables of the
+// crates below are handed on for whoever wants to read a table; no function here calls them.
 #![tactic(auto)]
 
 pub mod answer;

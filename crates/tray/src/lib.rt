@@ -18,7 +18,7 @@ use tray_places::{free, free_place, place_of_number, places_in, store_place};
 pub use tray_places::{Place, Sample, TRAY_SIZE};
 
 // Stores a place under its number, unless a question refuses it: `pair` is what the pair's own questions said, and their refusal comes first. A refusal is told as
-// a value of `R`, so that who has a pair's number alone hands over that number: it is what C reads.
+// a value of `R`, so that a caller that has a pair's number alone hands over that number: it is what C reads.
 pub fn hold<R: From<Refusal> + Drop>(
     tray: &mut [u32; TRAY_SIZE],
     number: u32,
