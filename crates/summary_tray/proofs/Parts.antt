@@ -1,7 +1,7 @@
 -- A tray as its places and its kept numbers: what is read of each, and what is left where a call has changed the places and the summary is kept anew.
 use Prim.Native.Nat.{ℕ, ◌<◌}
 use mathlib.Core.Path.{◌≡◌, refl, sym, ap, ap₂, ◌∙◌, subst}
-use mathlib.Core.Bool.{true}
+use mathlib.Core.Bool.{true, false}
 use mathlib.Core.List.{List, ◌++◌}
 use native.Mathlib.Omega.{arith}
 use borrow.Author.Tests.{eq-eqb, ne_eqb}
@@ -86,6 +86,18 @@ taken_is q n {s} h e =
 
 pub says_within : (t : Summary) (a : Answer) → says_rest t a ≡ true → Within most t
 says_within t a h = passes t (both_pass (is_within t) (is_between t a) h).0
+
+-- ---- holding a place behind the number of the pair's own questions
+
+-- what is left is what the questions say behind that number, whichever it is; what is answered is the places' own answer, so that it goes by their `HeldByNumber`
+pub held_by_number : (l : List ℕ) (n k : ℕ) (place : Place) → tray_holding_unless l n (places.said_by k) place ≡ tray_holding l n k place
+unfolding tray_holding
+held_by_number l n k place =
+    by_order 0 k
+    (λ p.
+    let some : eqb k 0 ≡ false = ne_eqb k 0 (λ (z : k ≡ 0). omega arith) in
+    rw (some, questions.no_pair (places_in l) n k p, some) refl)
+    (λ z. let none : k ≡ 0 = omega arith in rw none refl)
 
 -- ---- what a call answers and leaves
 
