@@ -90,6 +90,16 @@ module _ (tray lent : List ℕ) (n u y : ℕ) {filled : List ℕ} (Filled-is : f
         by_case (Ok i) e =
             answered i e (subst (RightAnswer u y) (sym e) (right u y)) (is ∙ ap said_by (number_there ∙ ap number_of (sym e)))
 
+    -- a pair that its own questions refuse
+    pub put_by_pair : (get_or filled 0 0 ≡ 0 → ⊥) → PutLeaves tray lent n u y (get_or filled 0 0) tray lent
+    put_by_pair z = by_case (answer_of u y) refl
+      where
+        by_case : (a : Answer) → a ≡ answer_of u y → PutLeaves tray lent n u y (get_or filled 0 0) tray lent
+        by_case (Err q) e =
+            let by = place_pair tray n t u y e (subst (RightAnswer u y) (sym e) (right u y)) in
+            put_done tray lent n u y (Err (Pair q)) h by.0 by.1 (number_there ∙ ap number_of (sym e)) refl
+        by_case (Ok i) e = absurd (z (number_there ∙ ap number_of (sym e)))
+
     module _ {p : Place} {said : Result (Unit {0}) ℕ} {m : List ℕ} (said-is : said ≡ said_by (get_or filled 0 0)) (p-is : p ≡ place_from filled n u y)
         (m-is : m ≡ tray_holding_unless tray n said p) where
       place_of_index : {i : Index} → Ok i ≡ answer_of u y → p ≡ place_of (sample_with n u y (Ok i))
