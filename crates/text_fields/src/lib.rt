@@ -6,6 +6,7 @@
 #![tactic(auto)]
 
 ghost use Rattle.std.specs.Prelude.{◌≡◌, ◌+◌, ◌≤◌, ◌++◌, length};
+ghost use Rattle.text_fields.specs.declared.TheConstants.{VISCOSITY_WIDTH, INDEX_WIDTH};
 ghost use Rattle.text_fields.specs.Fields.{line_end, digit, decimal, viscosity, signed_decimal, worded};
 
 use arrayvec::ArrayString;
@@ -45,9 +46,9 @@ pub fn push_decimal<const N: usize>(text: &mut ArrayString<N>, n: u32)
 #[tactic(auto, using(crate::proofs::Digits::digits_of_whole), unfolding(crate::specs::Fields::viscosity))]
 #[inline(always)]
 pub fn push_viscosity<const N: usize>(text: &mut ArrayString<N>, x: u32)
-    requires { length text.old.bytes + 11 ≤ N }
+    requires { length text.old.bytes + VISCOSITY_WIDTH ≤ N }
     ensures bytes { text.new.bytes ≡ text.old.bytes ++ viscosity x }
-    ensures within { length text.new.bytes ≤ length text.old.bytes + 11 }
+    ensures within { length text.new.bytes ≤ length text.old.bytes + VISCOSITY_WIDTH }
 {
     push_decimal(text, x / 1000);
     text.push_str(".");
@@ -61,9 +62,9 @@ pub fn push_viscosity<const N: usize>(text: &mut ArrayString<N>, x: u32)
 #[tactic(auto, using(crate::proofs::Digits::signed_as_printed))]
 #[inline(always)]
 pub fn push_signed_decimal<const N: usize>(text: &mut ArrayString<N>, index: i32)
-    requires { length text.old.bytes + 11 ≤ N }
+    requires { length text.old.bytes + INDEX_WIDTH ≤ N }
     ensures bytes { text.new.bytes ≡ text.old.bytes ++ signed_decimal index }
-    ensures within { length text.new.bytes ≤ length text.old.bytes + 11 }
+    ensures within { length text.new.bytes ≤ length text.old.bytes + INDEX_WIDTH }
 {
     text.push_str(itoa::Buffer::new().format(index));
 }

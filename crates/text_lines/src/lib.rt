@@ -8,6 +8,7 @@ ghost use Rattle.answer_record.specs.Record.{result_size};
 ghost use Rattle.sheet.specs.Sheet.{most_pairs};
 ghost use Rattle.sheet.specs.Preconditions.{PairWithin};
 ghost use Rattle.text_fields.specs.Fields.{ascii, decimal, signed_decimal, worded};
+ghost use Rattle.text_lines.specs.declared.TheConstants.{OUTCOME_WIDTH, LINE_WIDTH};
 ghost use Rattle.text_lines.specs.Lines.{first_line, refused_line};
 ghost use Rattle.text_lines.specs.FromRecord.{outcome_by, outcome_at, line_at};
 
@@ -52,9 +53,9 @@ pub fn refused_line(number: u8) -> ArrayString<REFUSED_LINE_WIDTH>
 #[inline(always)]
 fn push_answered<const N: usize>(text: &mut ArrayString<N>, word: &str, index: i32)
     requires short { length word.now ≤ 2 }
-    requires room { length text.old.bytes + 14 ≤ N }
+    requires room { length text.old.bytes + OUTCOME_WIDTH ≤ N }
     ensures bytes { text.new.bytes ≡ text.old.bytes ++ worded word.now (signed_decimal index) }
-    ensures within { length text.new.bytes ≤ length text.old.bytes + 14 }
+    ensures within { length text.new.bytes ≤ length text.old.bytes + OUTCOME_WIDTH }
 {
     text.push_str(word);
     text.push_str(SPACE);
@@ -65,9 +66,9 @@ fn push_answered<const N: usize>(text: &mut ArrayString<N>, word: &str, index: i
 #[tactic(auto, using(crate::proofs::Widths::digits_of_byte))]
 #[inline(always)]
 fn push_refused<const N: usize>(text: &mut ArrayString<N>, number: u8)
-    requires { length text.old.bytes + 14 ≤ N }
+    requires { length text.old.bytes + OUTCOME_WIDTH ≤ N }
     ensures bytes { text.new.bytes ≡ text.old.bytes ++ worded (ascii "refused") (decimal number) }
-    ensures within { length text.new.bytes ≤ length text.old.bytes + 14 }
+    ensures within { length text.new.bytes ≤ length text.old.bytes + OUTCOME_WIDTH }
 {
     text.push_str("refused");
     text.push_str(SPACE);
@@ -78,9 +79,9 @@ fn push_refused<const N: usize>(text: &mut ArrayString<N>, number: u8)
 // other three is B near.
 #[inline(always)]
 fn push_outcome_by<const N: usize>(text: &mut ArrayString<N>, number: u8, method: u8, index: i32)
-    requires { length text.old.bytes + 14 ≤ N }
+    requires { length text.old.bytes + OUTCOME_WIDTH ≤ N }
     ensures bytes { text.new.bytes ≡ text.old.bytes ++ outcome_by number method index }
-    ensures within { length text.new.bytes ≤ length text.old.bytes + 14 }
+    ensures within { length text.new.bytes ≤ length text.old.bytes + OUTCOME_WIDTH }
 {
     match method {
         METHOD_REFUSED => push_refused(text, number),
@@ -93,10 +94,10 @@ fn push_outcome_by<const N: usize>(text: &mut ArrayString<N>, number: u8, method
 // The outcome of the pair whose record begins at `from`: the sheet is bytes that document 01 lays out, so that the offset goes beside them.
 #[inline(always)]
 fn push_outcome_at<const N: usize>(text: &mut ArrayString<N>, sheet: &[u8], from: usize)
-    requires room { length text.old.bytes + 14 ≤ N }
+    requires room { length text.old.bytes + OUTCOME_WIDTH ≤ N }
     requires record_within { from + result_size ≤ length sheet.now }
     ensures bytes { text.new.bytes ≡ text.old.bytes ++ outcome_at sheet.now from }
-    ensures within { length text.new.bytes ≤ length text.old.bytes + 14 }
+    ensures within { length text.new.bytes ≤ length text.old.bytes + OUTCOME_WIDTH }
 {
     let index = answer_record::number_at(sheet, from + INDEX_AT).cast_signed();
     push_outcome_by(text, sheet[from], sheet[from + METHOD_AT], index);
@@ -106,10 +107,10 @@ fn push_outcome_at<const N: usize>(text: &mut ArrayString<N>, sheet: &[u8], from
 #[tactic(auto, unfolding(crate::specs::Lines::printed_line))]
 #[inline(always)]
 pub fn push_line<const N: usize>(text: &mut ArrayString<N>, sheet: &[u8], blocks: Blocks, i: usize)
-    requires room { length text.old.bytes + 39 ≤ N }
+    requires room { length text.old.bytes + LINE_WIDTH ≤ N }
     requires pair_within { PairWithin (length sheet.now) blocks i }
     ensures bytes { text.new.bytes ≡ text.old.bytes ++ line_at sheet.now blocks i }
-    ensures within { length text.new.bytes ≤ length text.old.bytes + 39 }
+    ensures within { length text.new.bytes ≤ length text.old.bytes + LINE_WIDTH }
 {
     let pair = sheet::pair_at(sheet, blocks.pairs, i);
     push_viscosity(text, pair.u);
